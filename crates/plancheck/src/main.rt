@@ -1,22 +1,65 @@
 // Checks the tables of one small task and a plan of it, and prints what it did.
 use std::error::AnyError;
+use tables::fault::TaskFault;
+use tables::*;
 use task::accepted::Task;
-use task::fault::TaskFault;
 use task::plan::PlanFault;
 use task::state::State;
-use task::tables::*;
 
 // A quantity `pads` from 0 to 20, at 0 at the start. Move 1, big, costs 5 and adds 5; move 2, small, costs 3 and adds 2. The
 // goal is at least 7 pads.
-static PADS: [Quantity; 1] = [Quantity { lowest: 0, highest: 20, start: 0 }];
-static ENOUGH: [Condition; 1] = [Condition { kind: 0, bound: 7, terms: 2 }];
-static MOVES: [Move; 2] = [Move { cost: 5, needs: 0, effects: 3 }, Move { cost: 3, needs: 0, effects: 4 }];
-static LINKS: [Link; 4] = [
-    Link { kind: 3, subject: 1, amount: 0, next: 0 },
-    Link { kind: 1, subject: 1, amount: 1, next: 0 },
-    Link { kind: 6, subject: 1, amount: 5, next: 0 },
-    Link { kind: 6, subject: 1, amount: 2, next: 0 },
+static PADS: [Quantity; 1] = [Quantity {
+    lowest: 0,
+    highest: 20,
+    start: 0,
+}];
+
+static ENOUGH: [Condition; 1] = [Condition {
+    kind: 0,
+    bound: 7,
+    terms: 2,
+}];
+
+static MOVES: [Move; 2] = [
+    Move {
+        cost: 5,
+        needs: 0,
+        effects: 3,
+    },
+    Move {
+        cost: 3,
+        needs: 0,
+        effects: 4,
+    },
 ];
+
+static LINKS: [Link; 4] = [
+    Link {
+        kind: 3,
+        subject: 1,
+        amount: 0,
+        next: 0,
+    },
+    Link {
+        kind: 1,
+        subject: 1,
+        amount: 1,
+        next: 0,
+    },
+    Link {
+        kind: 6,
+        subject: 1,
+        amount: 5,
+        next: 0,
+    },
+    Link {
+        kind: 6,
+        subject: 1,
+        amount: 2,
+        next: 0,
+    },
+];
+
 static PLAN: [u32; 2] = [1, 2];
 
 fn name_of(number: u32) -> &'static str {
@@ -29,7 +72,10 @@ fn say_task_fault(rt: &impl Print, fault: TaskFault) -> Result<(), AnyError> {
     let table = place.table;
     let record = place.record;
     let link = place.link;
-    println!(rt, "tables refused: rule {number} at table {table}, record {record}, link {link}")?;
+    println!(
+        rt,
+        "tables refused: rule {number} at table {table}, record {record}, link {link}"
+    )?;
     Ok(())
 }
 
@@ -59,7 +105,11 @@ fn follow(rt: &impl Print, task: &Task, list: &[u32]) -> Result<(), AnyError> {
 
 fn run(rt: &impl Print) -> Result<(), AnyError> {
     let tables = Tables {
-        head: Head { facts: 0, start: 0, goal: 1 },
+        head: Head {
+            facts: 0,
+            start: 0,
+            goal: 1,
+        },
         quantities: &PADS,
         conditions: &ENOUGH,
         moves: &MOVES,

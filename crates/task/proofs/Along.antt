@@ -18,21 +18,21 @@ use mir.Syntax.{w32}
 use mir.Val.{SFits}
 use Rattle.std.specs.declared.option.Option.the-variants.{Some, None}
 use Rattle.std.specs.shelf.Lists.{All}
-use Rattle.task.specs.Chains.{Visit, link, missing, visits, links-of, chain}
-use Rattle.task.specs.Problem.{Problem}
-use Rattle.task.specs.Rules.{LinkKeeps, LinkFits, VisitKeeps, ChainKeeps, QuantityKeeps, ConditionKeeps, MoveKeeps, Keeps}
+use Rattle.tables.specs.Chains.{Visit, link, missing, visits, links-of, chain}
+use Rattle.tables.specs.Problem.{Problem}
+use Rattle.tables.specs.Rules.{LinkKeeps, LinkFits, VisitKeeps, ChainKeeps, QuantityKeeps, ConditionKeeps, MoveKeeps, Keeps}
 use Rattle.task.specs.Walk.{Leads, Walkable, Stepped, steps-left}
 use Rattle.task.specs.States.{quantity-at, condition-at, move-at, value-of, add-term, total}
 use Rattle.task.specs.Tasks.{problem}
 use Rattle.task.specs.declared.accepted.Task.{Task}
 use Rattle.task.specs.declared.state.State.{State}
-use Rattle.task.specs.declared.tables.Role.the-variants.{Terms, Needs, Effects}
-use Rattle.task.proofs.Accepts.{decides-accepted, decides-leZ}
+use Rattle.tables.specs.declared.Role.the-variants.{Terms, Needs, Effects}
+use Rattle.tables.proofs.Accepts.{decides-accepted, decides-leZ}
 use Rattle.task.proofs.Ints.{natAbs-add, size-fits32}
-use Rattle.task.specs.Check.{in-range}
-use Rattle.task.specs.declared.tables.Quantity.{Quantity}
-use Rattle.task.specs.declared.tables.Link.{Link}
-use Rattle.task.specs.declared.tables.Role.{Role}
+use Rattle.tables.specs.Check.{in-range}
+use Rattle.tables.specs.declared.Quantity.{Quantity}
+use Rattle.tables.specs.declared.Link.{Link}
+use Rattle.tables.specs.declared.Role.{Role}
 
 visits-lead : (p : Problem) (r : Role) (vs : List Visit) → All (VisitKeeps p r) vs → All Leads vs
 visits-lead p r [] h = tt
@@ -64,7 +64,8 @@ going-start p r first ls n t k l a =
     record {
       can = subst₂ Walkable (sym l) (sym a) (keeps-walk p r first k);
       fits = subst₂ (λ ks m. All (LinkFits p r) (chain ks m)) (sym l) (sym a) (keeps-fit p r first k);
-      short = subst (λ ks. steps-left ks n ≤ 4096) (sym l) few }
+      short = subst (λ ks. steps-left ks n ≤ 4096) (sym l) few;
+    }
   where
     few : steps-left (p .links) n ≤ 4096
     few = cond-both (eqb n 0) 0 (length (p .links) + 1 - n) (λ m. m ≤ 4096) (λ _. omega arith) (λ e. let ne = eqb-false n 0 e in omega (arith, t .few-links))
@@ -76,7 +77,7 @@ pub record Gone (p : Problem) (r : Role) (l : Link) (ls : List Link) (n : ℕ) (
   pub fewer : steps-left ls′ n′ < steps-left ls n
 
 pub going-step : (p : Problem) (r : Role) (l : Link) (ls : List Link) (n : ℕ) (ls′ : List Link) (n′ : ℕ) → Going p r ls n → Stepped ls n (Some l) ls′ n′
-  → Walkable ls′ n′ × Unit {0} × (steps-left ls′ n′ < steps-left ls n) → Gone p r l ls n ls′ n′
+    → Walkable ls′ n′ × Unit {0} × (steps-left ls′ n′ < steps-left ls n) → Gone p r l ls n ls′ n′
 unfolding Stepped
 going-step p r l ls n ls′ n′ g s on =
     let first : chain ls n ≡ l ∷ chain ls′ n′ = s .1 ∙ ap (λ ks. l ∷ chain ks n′) (sym (s .0)) in
@@ -140,7 +141,8 @@ summed-start p first s ls n t k l a =
     record {
       going = g;
       left = ap₂ (λ ks m. total (chain ks m) s) l a;
-      small = omega (arith, mul-le (steps-left ls n) term-limit 4096 term-limit (g .short) (omega arith)) }
+      small = omega (arith, mul-le (steps-left ls n) term-limit 4096 term-limit (g .short) (omega arith));
+    }
 
 module _ (p : Problem) (first : ℕ) (s : State) (ls : List Link) (n : ℕ) (ls′ : List Link) (n′ : ℕ) (sum : ℤ) (l : Link) (w : Summed p first s ls n sum) (g : Gone p Terms l ls n ls′ n′) (h : natAbs (l .amount *ℤ value-of s (l .subject)) ≤ term-limit) where
   pub summed-size : natAbs (add-term s sum l) + steps-left ls′ n′ * term-limit ≤ 4096 * term-limit

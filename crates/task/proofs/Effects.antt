@@ -16,14 +16,14 @@ use Rattle.std.proofs.shelf.Tests.{eq-eqb, ne-eqb, cond-true, cond-false, and-l
 use Rattle.std.specs.Iters.{folded}
 use Rattle.std.specs.declared.option.Option.{Option}
 use Rattle.std.specs.declared.option.Option.the-variants.{Some, None}
-use Rattle.task.specs.Chains.{chain}
-use Rattle.task.specs.Check.{in-range}
-use Rattle.task.specs.Problem.{Problem}
-use Rattle.task.specs.Rules.{ChainKeeps, LinkFits, Keeps}
+use Rattle.tables.specs.Chains.{chain}
+use Rattle.tables.specs.Check.{in-range}
+use Rattle.tables.specs.Problem.{Problem}
+use Rattle.tables.specs.Rules.{ChainKeeps, LinkFits, Keeps}
 use Rattle.task.specs.States.{quantity-at, changed, stays, noted, made, cleared, put, values-after, moved, after-effects}
 use Rattle.task.specs.declared.state.State.{State}
-use Rattle.task.specs.declared.tables.Link.{Link}
-use Rattle.task.specs.declared.tables.Role.the-variants.{Effects}
+use Rattle.tables.specs.declared.Link.{Link}
+use Rattle.tables.specs.declared.Role.the-variants.{Effects}
 use Rattle.task.proofs.Along.{Going, Gone, going-start}
 
 pub record Effected (p : Problem) (s : State) (whole : List Link) (ls : List Link) (n : ℕ) (values : List ℤ) (sets clears : ℕ) : Type 0 where
@@ -65,7 +65,8 @@ module _ (p : Problem) (s : State) (whole ls : List Link) (n : ℕ) (ls′ : Lis
         values-left = one-fold (put s) values _ _ (cond-false (eqb (l .kind) 6) _ _ (ne-eqb _ 6 n6)) (w .values-left);
         long = w .long;
         sets-fit = noted-fits sets (l .subject) (w .sets-fit) h;
-        clears-fit = w .clears-fit }
+        clears-fit = w .clears-fit;
+      }
 
   pub effected-clears : l .kind ≡ 5 → l .subject < 64 → Effected p s whole ls′ n′ values sets (bitOr clears (2 ^ l .subject))
   effected-clears k h =
@@ -79,7 +80,8 @@ module _ (p : Problem) (s : State) (whole ls : List Link) (n : ℕ) (ls′ : Lis
         values-left = one-fold (put s) values _ _ (cond-false (eqb (l .kind) 6) _ _ (ne-eqb _ 6 n6)) (w .values-left);
         long = w .long;
         sets-fit = w .sets-fit;
-        clears-fit = noted-fits clears (l .subject) (w .clears-fit) h }
+        clears-fit = noted-fits clears (l .subject) (w .clears-fit) h;
+      }
 
   module _ (n4 : l .kind ≡ 4 → ⊥) (n5 : l .kind ≡ 5 → ⊥) where
     change-kind : l .kind ≡ 6
@@ -98,14 +100,15 @@ module _ (p : Problem) (s : State) (whole ls : List Link) (n : ℕ) (ls′ : Lis
           values-left = one-fold (put s) values _ _ (cond-true (eqb (l .kind) 6) _ _ (eq-eqb _ 6 change-kind)) (w .values-left);
           long = length-set values (l .subject - 1) (changed s l) ∙ w .long;
           sets-fit = w .sets-fit;
-          clears-fit = w .clears-fit }
+          clears-fit = w .clears-fit;
+        }
 
     pub effected-out : in-range (quantity-at p (l .subject)) (changed s l) ≡ false → None ≡ after-effects p s whole
     unfolding after-effects
     effected-out e = sym (cond-false (stays p s whole) _ _ (sym (change-stays false e)))
 
 pub effected-end : (p : Problem) (s : State) (whole ls : List Link) (n : ℕ) (values : List ℤ) (sets clears : ℕ) → Effected p s whole ls n values sets clears → chain ls n ≡ []
-  → Some (record { facts = bitOr (bitXor (s .facts) (bitAnd (s .facts) clears)) sets; values = values }) ≡ after-effects p s whole
+    → Some (record { facts = bitOr (bitXor (s .facts) (bitAnd (s .facts) clears)) sets; values = values }) ≡ after-effects p s whole
 unfolding after-effects moved
 effected-end p s whole ls n values sets clears w e =
     let st : stays p s whole ≡ true = sym (w .keeps) ∙ ap (stays p s) e in

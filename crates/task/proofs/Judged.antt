@@ -17,13 +17,13 @@ use Rattle.std.specs.declared.option.Option.{Option}
 use Rattle.std.specs.declared.option.Option.the-variants.{Some, None}
 use Rattle.std.specs.declared.result.Result.{Result}
 use Rattle.std.specs.declared.result.Result.the-variants.{Ok, Err}
-use Rattle.task.specs.Problem.{Problem}
+use Rattle.tables.specs.Problem.{Problem}
 use Rattle.task.specs.Plans.{cost-of, and-then, after, PlanFrom, Plan, cost, is-move, moved-on, judged, plan-answer, Refused, Judges}
 use Rattle.task.specs.States.{goal-holds, start-state, allowed, result}
 use Rattle.task.specs.declared.state.State.{State}
 use Rattle.task.specs.declared.plan.PlanFault.{PlanFault}
 use Rattle.task.specs.declared.plan.PlanFault.the-variants.{TooLong, NoSuchMove, NotAllowed, GoalMissed}
-use Rattle.task.proofs.Checked.{some-none, some-same, under-some}
+use Rattle.tables.proofs.Checked.{some-none, some-same, under-some}
 
 -- ---- lists of moves
 
@@ -33,7 +33,7 @@ after-append p s [] ys = refl
 after-append p s (m ∷ xs) ys = go (result p s m) (λ e. after-append p e xs ys)
   where
     go : (o : Option State) → ((e : State) → after p e (xs ++ ys) ≡ and-then (after p e xs) (λ x. after p x ys))
-      → and-then o (λ e. after p e (xs ++ ys)) ≡ and-then (and-then o (λ e. after p e xs)) (λ e. after p e ys)
+        → and-then o (λ e. after p e (xs ++ ys)) ≡ and-then (and-then o (λ e. after p e xs)) (λ e. after p e ys)
     go None ih = refl
     go (Some e) ih = ih e
 
@@ -59,7 +59,7 @@ result-is-move p s e m h = and-parts _ _ (and-parts _ _ (under-some (allowed p s
 
 module _ (p : Problem) (ms : List ℕ) (i : ℕ) (s : State) (spent : ℕ) where
   judged-at : i < length ms → judged p (i + 1) s spent (drop i ms)
-    ≡ cond (is-move p (getD ms i 0)) (moved-on (result p s (getD ms i 0)) (Err (NotAllowed (i + 1))) (λ e. judged p (i + 1 + 1) e (spent + cost-of p (getD ms i 0)) (drop (i + 1) ms))) (Err (NoSuchMove (i + 1)))
+      ≡ cond (is-move p (getD ms i 0)) (moved-on (result p s (getD ms i 0)) (Err (NotAllowed (i + 1))) (λ e. judged p (i + 1 + 1) e (spent + cost-of p (getD ms i 0)) (drop (i + 1) ms))) (Err (NoSuchMove (i + 1)))
   unfolding judged
   judged-at h = ap (judged p (i + 1) s spent) (drop-more ms i 0 h)
 
@@ -70,7 +70,7 @@ module _ (p : Problem) (ms : List ℕ) (i : ℕ) (s : State) (spent : ℕ) where
   judged-not-allowed h m e = judged-at h ∙ cond-true _ _ _ m ∙ ap (λ o. moved-on o (Err (NotAllowed (i + 1))) (λ x. judged p (i + 1 + 1) x (spent + cost-of p (getD ms i 0)) (drop (i + 1) ms))) e
 
   pub judged-on : (e : State) → i < length ms → is-move p (getD ms i 0) ≡ true → result p s (getD ms i 0) ≡ Some e
-    → judged p (i + 1) s spent (drop i ms) ≡ judged p (i + 1 + 1) e (spent + cost-of p (getD ms i 0)) (drop (i + 1) ms)
+      → judged p (i + 1) s spent (drop i ms) ≡ judged p (i + 1 + 1) e (spent + cost-of p (getD ms i 0)) (drop (i + 1) ms)
   judged-on e h m r = judged-at h ∙ cond-true _ _ _ m ∙ ap (λ o. moved-on o (Err (NotAllowed (i + 1))) (λ x. judged p (i + 1 + 1) x (spent + cost-of p (getD ms i 0)) (drop (i + 1) ms))) r
 
   pub judged-end : i ≡ length ms → judged p (i + 1) s spent (drop i ms) ≡ cond (goal-holds p s) (Ok spent) (Err (GoalMissed (length ms)))
@@ -109,7 +109,7 @@ module _ (p : Problem) where
   Says ms (Err f) = Refused p ms f
 
   says-end : (b : Bool) (whole : List ℕ) (s : State) → after p (start-state p) whole ≡ Some s → goal-holds p s ≡ b → (k : ℕ) → k - 1 ≡ length whole → (c : ℕ) → c ≡ cost p whole
-    → Says whole (cond b (Ok c) (Err (GoalMissed (k - 1))))
+      → Says whole (cond b (Ok c) (Err (GoalMissed (k - 1))))
   unfolding Says
   says-end true whole s run g k at c spent = ((s, run, g), spent)
   says-end false whole s run g k at c spent = (at, (s, run, g))
@@ -123,9 +123,11 @@ module _ (p : Problem) where
     where
       Next : Type 0
       Next = (e′ : State) → result p s m ≡ Some e′ → Says whole (judged p (length (pre ++ (m ∷ [])) + 1) e′ (c + cost-of p m) ms)
+
       go : is-move p m ≡ true → (o : Option State) → result p s m ≡ o → Next → Says whole (moved-on o (Err (NotAllowed (length pre + 1))) (λ x. judged p (length pre + 1 + 1) x (c + cost-of p m) ms))
       go im None r next = (omega arith, within whole pre s run m ms e, ap (is-move p) (here whole pre s run m ms e) ∙ im, (s, taken whole pre s run (m ∷ ms) e, ap (result p s) (here whole pre s run m ms e) ∙ r))
       go im (Some e′) r next = subst (λ n. Says whole (judged p (n + 1) e′ (c + cost-of p m) ms)) (length-push pre m) (next e′ r)
+
       pick : (b : Bool) → is-move p m ≡ b → Next → Says whole (cond b (moved-on (result p s m) (Err (NotAllowed (length pre + 1))) (λ x. judged p (length pre + 1 + 1) x (c + cost-of p m) ms)) (Err (NoSuchMove (length pre + 1))))
       pick true im next = go im (result p s m) refl next
       pick false im next = (omega arith, within whole pre s run m ms e, (s, taken whole pre s run (m ∷ ms) e), ap (is-move p) (here whole pre s run m ms e) ∙ im)
@@ -148,7 +150,7 @@ module _ (p : Problem) where
   passes k s c (m ∷ ms) w = go (result p s m) refl (w .1) (λ e′ h. passes (k + 1) e′ (c + cost-of p m) ms (w .0, h, w .2))
     where
       go : (o : Option State) → result p s m ≡ o → and-then o (λ x. after p x ms) ≡ Some (w .0) → ((e′ : State) → after p e′ ms ≡ Some (w .0) → isOk (judged p (k + 1) e′ (c + cost-of p m) ms) ≡ true)
-        → isOk (cond (is-move p m) (moved-on (result p s m) (Err (NotAllowed k)) (λ x. judged p (k + 1) x (c + cost-of p m) ms)) (Err (NoSuchMove k))) ≡ true
+          → isOk (cond (is-move p m) (moved-on (result p s m) (Err (NotAllowed k)) (λ x. judged p (k + 1) x (c + cost-of p m) ms)) (Err (NoSuchMove k))) ≡ true
       go None r h ih = absurd (some-none (sym h))
       go (Some e′) r h ih =
           ap isOk (cond-true (is-move p m) _ _ (result-is-move p s e′ m r) ∙ ap (λ o. moved-on o (Err (NotAllowed k)) (λ x. judged p (k + 1) x (c + cost-of p m) ms)) r) ∙ ih e′ h

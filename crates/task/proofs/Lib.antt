@@ -1,12 +1,10 @@
 pub mod Words
-pub mod Walks
-pub mod Marks
-pub mod Checked
-pub mod Records
-pub mod Accepts
 pub mod Along
 pub mod Ints
 pub mod Starts
 pub mod Effects
 pub mod Results
 pub mod Judged
+pub mod Changes
+pub mod Keep
+pub mod Steps

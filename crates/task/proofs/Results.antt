@@ -9,8 +9,8 @@ use Rattle.std.proofs.shelf.Tests.{and-left, and-right, and-from, lt-leb, le-le
 use Rattle.std.specs.Options.{isSome}
 use Rattle.std.specs.declared.option.Option.{Option}
 use Rattle.std.specs.declared.option.Option.the-variants.{Some, None}
-use Rattle.task.specs.Chains.{chain}
-use Rattle.task.specs.Problem.{Problem}
+use Rattle.tables.specs.Chains.{chain}
+use Rattle.tables.specs.Problem.{Problem}
 use Rattle.task.specs.States.{move-at, all-hold, stays, moved, after-effects, allowed, result}
 use Rattle.task.specs.declared.state.State.{State}
 
@@ -33,6 +33,6 @@ unfolding result allowed
 result-no-needs p s m h = cond-false (allowed p s m) _ _ (and-left _ _ (and-right _ _ h))
 
 pub result-needs : (p : Problem) (s : State) (m : ℕ) → 1 ≤ m → m ≤ length (p .moves) → all-hold p s (chain (p .links) (move-at p m .needs)) ≡ true
-  → result p s m ≡ after-effects p s (chain (p .links) (move-at p m .effects))
+    → result p s m ≡ after-effects p s (chain (p .links) (move-at p m .effects))
 unfolding result allowed after-effects
 result-needs p s m a b h = ap (λ t. cond (t && stays p s (chain (p .links) (move-at p m .effects))) (Some (moved s (chain (p .links) (move-at p m .effects)))) None) (and-from _ _ (and-from _ _ (le-leb 1 m a) (le-leb m _ b)) h)

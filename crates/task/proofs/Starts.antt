@@ -8,7 +8,7 @@ use lib.IntN.{ℤ, pos}
 use lib.ListN.{length, getD, set, take, drop, replicate}
 use Rattle.std.proofs.shelf.Lists.{length-map, length-append, length-replicate, length-take-le, set-at, map-more, append-assoc, take-all, drop-more, drop-all}
 use Rattle.task.specs.States.{value-fits, values-fit}
-use Rattle.task.specs.declared.tables.Quantity.{Quantity}
+use Rattle.tables.specs.declared.Quantity.{Quantity}
 
 -- the values with the first i quantities filled in
 abbrev pub started : List Quantity → ℕ → List ℤ

@@ -1,9 +1,5 @@
-pub mod Problem
-pub mod Chains
-pub mod Faults
-pub mod Check
-pub mod Rules
 pub mod States
 pub mod Tasks
 pub mod Walk
 pub mod Plans
+pub mod Meaning

@@ -1,14 +1,18 @@
 -- Lists of moves, plans and their cost, and the plan check.
 --   cost-of      the cost of a move
+--   and-then     an answer worked out from another, where that is there
 --   after        the state after a list of moves, each allowed in turn
 --   PlanFrom     a plan from a state: a list of moves, each allowed in turn, after which the goal holds
 --   Plan         a plan of the task: a plan from its start state
 --   Reachable    a state that a list of moves, each allowed in turn, leads to from the start state
 --   cost         the cost of a list of moves
 --   plan-number, plan-position   the number and the position of each fault of the plan check
+--   is-move      a number is that of a move of the table
+--   moved-on     goes on from a result, where there is one
 --   judged       the answer for the rest of a list from position k, at the state and the cost so far
 --   plan-answer  the answer of the plan check
 --   Refused      what each refusal says of the list
+--   Judges       what an answer says of the list
 use Prim.Native.Nat.{ℕ, _+_, _-_, _<_, _≤_}
 use mathlib.Core.Bool.{Bool, true, false, cond, _&&_}
 use mathlib.Core.List.{List, [], _∷_}
@@ -20,7 +24,7 @@ use Rattle.std.specs.declared.option.Option.{Option}
 use Rattle.std.specs.declared.option.Option.the-variants.{Some, None}
 use Rattle.std.specs.declared.result.Result.{Result}
 use Rattle.std.specs.declared.result.Result.the-variants.{Ok, Err}
-use Rattle.task.specs.Problem.{Problem}
+use Rattle.tables.specs.Problem.{Problem}
 use Rattle.task.specs.States.{move-at, goal-holds, start-state, result}
 use Rattle.task.specs.declared.state.State.{State}
 use Rattle.task.specs.declared.plan.PlanFault.{PlanFault}

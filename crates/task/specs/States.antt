@@ -6,16 +6,18 @@
 --   mark              the least sum at which a condition holds: its bound, or one more for 'more than'
 --   condition-holds, need-holds, all-hold   a condition, a need, a list of needs holds in a state
 --   goal-holds        every need of the goal chain holds
---   value-fits        the value at index i is in the range of quantity i + 1, or 0 past the last quantity
+--   value-fits, values-fit   the value at index i is in the range of quantity i + 1, or 0 past the last quantity
 --   is-state          a record is a state: no fact bit from the number of facts up, each quantity in its range, 0 past them
 --   start-state       the state at the start
 --   changed           a quantity's value with the amount of a link added to it
---   stays             every quantity that an effect changes stays in its range
+--   stays             every quantity that a link of the effects changes is in its range then
+--   noted             a word with the fact of a link added, where the link is of a kind
 --   cleared, made     the words of the facts that effects clear and set
---   values-after      the values with all changes, each worked out from the state before
+--   put, values-after the values with all changes, each worked out from the state before; an accepted chain names a
+--                     quantity at most once, so that no change undoes another
 --   moved             the result of a move's effects: clears, then sets, and all changes at once
---   after-effects     that result, where every quantity stays in its range
---   allowed           a move of the table whose needs hold and that keeps every quantity in its range
+--   after-effects     that result, where every quantity that the effects change stays in its range
+--   allowed           a move of the table whose needs hold and whose changes stay in their ranges
 --   result            the result of a move where it is allowed
 use Prim.Native.Nat.{ℕ, _+_, _-_, _/_, _%_, _^_}
 use mathlib.Core.Bool.{Bool, true, false, cond, _&&_}
@@ -28,13 +30,13 @@ use lib.Signed.{leZ}
 use Rattle.std.specs.Iters.{folded}
 use Rattle.std.specs.declared.option.Option.{Option}
 use Rattle.std.specs.declared.option.Option.the-variants.{Some, None}
-use Rattle.task.specs.Chains.{chain}
-use Rattle.task.specs.Check.{in-range}
-use Rattle.task.specs.Problem.{Problem}
-use Rattle.task.specs.declared.tables.Quantity.{Quantity}
-use Rattle.task.specs.declared.tables.Condition.{Condition}
-use Rattle.task.specs.declared.tables.Move.{Move}
-use Rattle.task.specs.declared.tables.Link.{Link}
+use Rattle.tables.specs.Chains.{chain}
+use Rattle.tables.specs.Check.{in-range}
+use Rattle.tables.specs.Problem.{Problem}
+use Rattle.tables.specs.declared.Quantity.{Quantity}
+use Rattle.tables.specs.declared.Condition.{Condition}
+use Rattle.tables.specs.declared.Move.{Move}
+use Rattle.tables.specs.declared.Link.{Link}
 use Rattle.task.specs.declared.state.State.{State}
 
 abbrev pub fact-holds : ℕ → ℕ → Bool

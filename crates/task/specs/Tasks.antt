@@ -1,5 +1,5 @@
 -- problem   the planning task that an accepted task stands for
-use Rattle.task.specs.Problem.{Problem, contents}
+use Rattle.tables.specs.Problem.{Problem, contents}
 use Rattle.task.specs.declared.accepted.Task.{Task}
 
 abbrev pub problem : Task → Problem

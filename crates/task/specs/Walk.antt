@@ -1,4 +1,5 @@
 -- A walk of a chain, link by link.
+--   Leads       a visit is of a link, whose next is 0 or a later link
 --   Walkable    every link that the walk from a number meets is in the table, and leads to a later link or to none
 --   Stepped     one step of the walk: at the end nothing, else the chain's first link, with the rest to come
 --   steps-left  at most how many links are to come
@@ -12,8 +13,8 @@ use lib.ListN.{length}
 use Rattle.std.specs.Options.{Cases}
 use Rattle.std.specs.declared.option.Option.{Option}
 use Rattle.std.specs.shelf.Lists.{All}
-use Rattle.task.specs.Chains.{Visit, link, missing, visits, chain}
-use Rattle.task.specs.declared.tables.Link.{Link}
+use Rattle.tables.specs.Chains.{Visit, link, missing, visits, chain}
+use Rattle.tables.specs.declared.Link.{Link}
 
 abbrev pub Leads : Visit → Type 0
 Leads (link n l) = (l .next ≡ 0) ⊎ (n < l .next)

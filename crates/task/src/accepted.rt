@@ -1,9 +1,9 @@
 // A task whose tables passed the check. There is no other way to get one: the check's own answer is what the making asks for.
 ghost use mathlib.Core.Bool.{true};
 ghost use mathlib.Core.Path.{_≡_};
-ghost use Rattle.task.specs.Check.{accepted};
-ghost use Rattle.task.specs.Problem.{contents};
-use crate::tables::Tables;
+ghost use Rattle.tables.specs.Check.{accepted};
+ghost use Rattle.tables.specs.Problem.{contents};
+use tables::Tables;
 
 #[derive(Clone, Copy)]
 pub struct Task<'a> {

@@ -2,7 +2,7 @@
 ghost use mathlib.Core.Path.{_≡_};
 ghost use denote.Ref.{now};
 ghost use Rattle.task.specs.Walk.{Walkable, Stepped, steps-left};
-use crate::tables::*;
+use tables::*;
 
 #[derive(Clone, Copy)]
 pub struct Chain<'a> {

@@ -2,16 +2,16 @@
 ghost use mathlib.Core.Path.{_≡_};
 ghost use Prim.Native.Nat.{ℕ, _+_, _-_, _<_, _≤_};
 ghost use lib.ListN.{length};
-ghost use Rattle.task.specs.Chains.{chain};
-ghost use Rattle.task.specs.Problem.{contents};
-ghost use Rattle.task.specs.Rules.{ChainKeeps, LinkFits};
+ghost use Rattle.tables.specs.Chains.{chain};
+ghost use Rattle.tables.specs.Problem.{contents};
+ghost use Rattle.tables.specs.Rules.{ChainKeeps, LinkFits};
 ghost use Rattle.task.specs.States.{total, mark, condition-at, condition-holds, need-holds, all-hold, goal-holds};
 ghost use Rattle.task.specs.Tasks.{problem};
-ghost use Rattle.task.specs.declared.tables.Role.the-variants.{Terms, Needs};
+ghost use Rattle.tables.specs.declared.Role.the-variants.{Terms, Needs};
 use crate::accepted::Task;
 use crate::chain::*;
 use crate::state::State;
-use crate::tables::*;
+use tables::*;
 
 impl Task<'_> {
     // The sum of weight × value over the chain of terms that begins at a number.
@@ -33,7 +33,7 @@ impl Task<'_> {
         ensures { λ r. ⌜ r ≡ condition-holds (problem (now (self .entry))) (now (state .entry)) (condition-at (problem (now (self .entry))) number) ⌝ }
     {
         let condition = self.tables.conditions[number as usize - 1];
-        self.total(condition.terms, state) >= condition.mark()
+        self.total(condition.terms, state) >= mark(&condition)
     }
 
     fn need_holds(&self, need: &Link, state: &State) -> bool
@@ -60,7 +60,7 @@ impl Task<'_> {
         true
     }
 
-    // Whether every need of the goal holds in a state.
+    // Whether every need of the goal holds, at any record.
     pub fn goal_holds(&self, state: &State) -> bool
         ensures { λ r. ⌜ r ≡ goal-holds (problem (now (self .entry))) (now (state .entry)) ⌝ }
     {
@@ -68,11 +68,13 @@ impl Task<'_> {
     }
 }
 
-impl Condition {
-    // The least sum at which the condition holds: its bound, or one more for 'more than'.
-    fn mark(&self) -> i64
-        ensures { λ r. ⌜ r ≡ mark (now (self .entry)) ⌝ }
-    {
-        if self.kind == 0 { i64::from(self.bound) } else { i64::from(self.bound) + 1 }
+// The least sum at which a condition holds: its bound, or one more for 'more than'.
+fn mark(condition: &Condition) -> i64
+    ensures { λ r. ⌜ r ≡ mark (now (condition .entry)) ⌝ }
+{
+    if condition.kind == 0 {
+        i64::from(condition.bound)
+    } else {
+        i64::from(condition.bound) + 1
     }
 }

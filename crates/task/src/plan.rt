@@ -75,7 +75,11 @@ impl Task<'_> {
             spent += self.cost(number);
             state = next;
         }
-        if self.goal_holds(&state) { Ok(spent) } else { Err(PlanFault::GoalMissed(list.len() as u32)) }
+        if self.goal_holds(&state) {
+            Ok(spent)
+        } else {
+            Err(PlanFault::GoalMissed(list.len() as u32))
+        }
     }
 
     // The cost of a move of the table.

@@ -9,7 +9,7 @@ use mir.Syntax.{w32}
 use mir.Val.{SFits}
 use Rattle.std.proofs.shelf.Signed.{toZ-ofZ}
 use Rattle.std.proofs.shelf.Tests.{cases-bool, cond-false}
-use Rattle.task.specs.Check.{in-range}
+use Rattle.tables.specs.Check.{in-range}
 use Rattle.task.specs.States.{quantity-at, value-of, changed}
 use Rattle.task.specs.Tasks.{problem}
 use Rattle.task.proofs.Along.{kept-rules, range-fits, quantity-holds}
@@ -26,5 +26,5 @@ returns-in-Break-value c =
     let fv : SFits w32 (value-of s (l .subject)) = search needs in
     let fa : SFits w32 (l .amount) = search needs in
     let out : in-range (quantity-at p (l .subject)) (changed s l) ≡ true → ⊥ = λ h.
-          c .in-Break-value .ensures tt (subst (SFits w32) (ap₂ _+ℤ_ (sym (toZ-ofZ w32 _ fv)) (sym (toZ-ofZ w32 _ fa))) (range-fits _ _ (quantity-holds p (l .subject) (kept-rules (c .args .self .now)) (c .pre .0) (c .pre .1)) h)) in
+    c .in-Break-value .ensures tt (subst (SFits w32) (ap₂ _+ℤ_ (sym (toZ-ofZ w32 _ fv)) (sym (toZ-ofZ w32 _ fa))) (range-fits _ _ (quantity-holds p (l .subject) (kept-rules (c .args .self .now)) (c .pre .0) (c .pre .1)) h)) in
     c .from-residual .ensures ∙ sym (cond-false _ _ _ (⊎-elim (λ h. absurd (out h)) (λ h. h) (cases-bool _)))

@@ -7,7 +7,7 @@ use Rattle.std.specs.Results.{isOk}
 use Rattle.std.specs.declared.result.Result.{Result}
 use mathlib.Core.List.{List}
 use Rattle.task.specs.Plans.{plan-answer, Judges, Plan}
-use Rattle.task.specs.Problem.{Problem}
+use Rattle.tables.specs.Problem.{Problem}
 use Rattle.task.specs.declared.plan.PlanFault.{PlanFault}
 use Rattle.task.proofs.Judged.{plan-judges, plan-exact}
 use Rattle.task.proofs.accepted.Task.check_plan.Needs as need

@@ -10,12 +10,12 @@ use mir.Syntax.{w32}
 use mir.Val.{SFits}
 use Rattle.std.proofs.shelf.Bits.{one-shl}
 use Rattle.std.proofs.shelf.Signed.{toZ-ofZ}
-use Rattle.task.specs.Chains.{chain}
+use Rattle.tables.specs.Chains.{chain}
 use Rattle.task.specs.States.{stays, made, cleared, values-after}
 use Rattle.task.specs.Tasks.{problem}
-use Rattle.task.specs.declared.tables.Role.the-variants.{Effects}
+use Rattle.tables.specs.declared.Role.the-variants.{Effects}
 use Rattle.task.proofs.Along.{Gone, going-start, going-step, going-end, kept-rules}
-use Rattle.task.proofs.Checked.{under-some, under-none}
+use Rattle.tables.proofs.Checked.{under-some, under-none}
 use Rattle.task.proofs.Effects.{Effected, effect-fact, effect-quantity, effected-sets, effected-clears, effected-change, effected-out, effected-end}
 use Rattle.task.proofs.accepted.Task.effected.Needs as need
 
@@ -27,9 +27,11 @@ loop-link-holds c =
     let links = ap (λ k. now (k .links)) it ∙ c .new-link-items .ensures .0 in
     let at = ap (λ k. k .at) it ∙ c .new-link-items .ensures .1 in
     let same = ap₂ chain links at in
-    let g = going-start p Effects (c .args .first) _ _ (kept-rules (c .args .self .now)) (c .pre) links at in
-    ( g .can, tt
-    , record { going = g; keeps = ap (stays p s) same; sets-left = ap made same; clears-left = ap cleared same; values-left = ap (values-after s) same; long = search needs; sets-fit = omega arith; clears-fit = omega arith } )
+    let g = going-start p Effects (c .args .first) _ _ (kept-rules (c .args .self .now)) (c .pre) links at in (
+      g .can,
+      tt,
+      record { going = g; keeps = ap (stays p s) same; sets-left = ap made same; clears-left = ap cleared same; values-left = ap (values-after s) same; long = search needs; sets-fit = omega arith; clears-fit = omega arith },
+    )
 
 pub shl-sets : need.shl-sets
 shl-sets c =

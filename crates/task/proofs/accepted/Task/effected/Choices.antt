@@ -1,5 +1,5 @@
 use denote.Ref.{now}
-use Rattle.task.specs.Chains.{chain}
+use Rattle.tables.specs.Chains.{chain}
 use Rattle.task.specs.Tasks.{problem}
 use Rattle.task.proofs.Effects.{Effected}
 use Rattle.task.proofs.accepted.Task.effected.Given as given

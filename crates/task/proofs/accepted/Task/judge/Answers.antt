@@ -18,15 +18,16 @@ returns-then-number-eq0 c =
 
 pub returns-in-rest : need.returns-in-rest
 returns-in-rest c =
-    sym (judged-not-allowed _ _ _ _ _ (c .loop-i-test .taken) (move-number (problem (c .args .self .now)) _ (omega arith) (c .if-number-self .left)) (sym (c .result .ensures) ∙ c .in-rest .is))
+    sym (judged-not-allowed _ _ _ _ _ (c .loop-i-test .taken) (move-number (problem (c .args .self .now)) _ (omega arith) (c .if-number-self .left)) (sym (c .result .ensures .is) ∙ c .in-rest .is))
     ∙ c .loop-i .inv .0
 
 pub loop-i-again : need.loop-i-again
-loop-i-again c =
-    ( ap (λ n. judged (problem (c .args .self .now)) (c .loop-i .i + 1 + 1) (c .in-Some .next) (c .loop-i .spent + n) (drop (c .loop-i .i + 1) (c .args .list .now))) (c .cost-spent .ensures .is)
-      ∙ sym (judged-on _ _ _ _ _ (c .in-Some .next) (c .loop-i-test .taken) (move-number (problem (c .args .self .now)) _ (omega arith) (c .if-number-self .left)) (sym (c .result .ensures) ∙ c .in-Some .is))
-      ∙ c .loop-i .inv .0
-    , omega (arith, c .loop-i .inv .1, c .cost-spent .ensures .small) )
+loop-i-again c = (
+  ap (λ n. judged (problem (c .args .self .now)) (c .loop-i .i + 1 + 1) (c .in-Some .next) (c .loop-i .spent + n) (drop (c .loop-i .i + 1) (c .args .list .now))) (c .cost-spent .ensures .is)
+      ∙ sym (judged-on _ _ _ _ _ (c .in-Some .next) (c .loop-i-test .taken) (move-number (problem (c .args .self .now)) _ (omega arith) (c .if-number-self .left)) (sym (c .result .ensures .is) ∙ c .in-Some .is))
+      ∙ c .loop-i .inv .0,
+  omega (arith, c .loop-i .inv .1, c .cost-spent .ensures .small),
+)
 
 pub returns-then-goal-holds : need.returns-then-goal-holds
 returns-then-goal-holds c =

@@ -1,10 +1,10 @@
 use mathlib.Core.Path.{_≡_, refl, sym, _∙_, ap, ap₂}
 use mathlib.Core.Bool.{_&&_}
 use denote.Ref.{now}
-use Rattle.task.specs.Chains.{chain}
+use Rattle.tables.specs.Chains.{chain}
 use Rattle.task.specs.States.{all-hold}
 use Rattle.task.specs.Tasks.{problem}
-use Rattle.task.specs.declared.tables.Role.the-variants.{Needs}
+use Rattle.tables.specs.declared.Role.the-variants.{Needs}
 use Rattle.task.proofs.Along.{going-start, going-step, going-end, kept-rules}
 use Rattle.task.proofs.accepted.Task.needs_hold.Needs as need
 
@@ -33,10 +33,13 @@ loop-need-again c =
     let e = c .in-Some .ensures tt in
     let p = problem (c .args .self .now) in
     let s = c .args .state .now in
-    let g = going-step _ Needs _ _ _ _ _ (c .loop-need .inv .2) (e .steps) (e .goes .on tt) in
-    ( g .rest .can, tt, g .rest
-    , ap (λ b. b && all-hold p s (chain (now (c .next .last .self .links)) (c .next .last .self .at))) (c .if-not-need-holds .ensures tt)
-      ∙ sym (ap (all-hold p s) (g .first)) ∙ c .loop-need .inv .3 )
+    let g = going-step _ Needs _ _ _ _ _ (c .loop-need .inv .2) (e .steps) (e .goes .on tt) in (
+      g .rest .can,
+      tt,
+      g .rest,
+      ap (λ b. b && all-hold p s (chain (now (c .next .last .self .links)) (c .next .last .self .at))) (c .if-not-need-holds .ensures tt)
+          ∙ sym (ap (all-hold p s) (g .first)) ∙ c .loop-need .inv .3,
+    )
 
 pub returns : need.returns
 returns c = sym (ap (all-hold (problem (c .args .self .now)) (c .args .state .now)) (going-end _ _ _ _ (c .in-None .ensures tt .steps))) ∙ c .loop-need .inv .3

@@ -1,9 +1,9 @@
 use mathlib.Core.Path.{_≡_}
 use denote.Ref.{now}
-use Rattle.task.specs.Chains.{chain}
+use Rattle.tables.specs.Chains.{chain}
 use Rattle.task.specs.States.{all-hold}
 use Rattle.task.specs.Tasks.{problem}
-use Rattle.task.specs.declared.tables.Role.the-variants.{Needs}
+use Rattle.tables.specs.declared.Role.the-variants.{Needs}
 use Rattle.task.proofs.Along.{Going}
 use Rattle.task.proofs.accepted.Task.needs_hold.Given as given
 

@@ -6,10 +6,11 @@ use Rattle.std.proofs.shelf.Signed.{toZ-ofZ}
 use Prim.Native.Nat.{_<_, _≤_}
 use native.Mathlib.Omega.{arith}
 use lib.ListN.{set, length, getD}
-use Rattle.task.specs.States.{start-state, no-quantity}
+use Rattle.task.specs.States.{start-state, is-state, no-quantity}
 use Rattle.task.specs.Tasks.{problem}
 use Rattle.task.specs.declared.state.State.{State}
 use Rattle.task.proofs.Along.{kept-rules}
+use Rattle.task.proofs.Keep.{start-is-state}
 use Rattle.task.proofs.Starts.{started-more, started-all}
 use Rattle.task.proofs.accepted.Task.start_state.Needs as need
 
@@ -28,4 +29,5 @@ unfolding start-state
 returns c =
     let at : c .loop-i .i ≡ length (problem (c .args .self .now) .quantities) = omega arith in
     let make : _ → State = λ vs. record { facts = c .args .self .now .tables .head .start; values = vs } in
-    ap make (c .loop-i .inv ∙ started-all _ _ at)
+    let e = ap make (c .loop-i .inv ∙ started-all _ _ at) in
+    record { is = e; state = ap (is-state (problem (c .args .self .now))) e ∙ start-is-state (problem (c .args .self .now)) (kept-rules (c .args .self .now)) }

@@ -11,7 +11,7 @@ use Rattle.std.proofs.shelf.Signed.{toZ-ofZ}
 use Rattle.std.specs.Iters.{folded}
 use Rattle.task.specs.States.{value-of, add-term}
 use Rattle.task.specs.Tasks.{problem}
-use Rattle.task.specs.declared.tables.Role.the-variants.{Terms}
+use Rattle.tables.specs.declared.Role.the-variants.{Terms}
 use Rattle.task.proofs.Along.{Summed, Gone, going-step, going-end, summed-start, summed-step, summed-size, term-of, term-limit, kept-rules}
 use Rattle.task.proofs.Ints.{product-size, size-fits64, fits32-size, widened-product}
 use Rattle.task.proofs.accepted.Task.total.Needs as need

@@ -2,9 +2,10 @@ use mathlib.Core.Path.{refl}
 use Prim.Native.Nat.{_<_, _≤_, _-_}
 use native.Mathlib.Omega.{arith}
 use lib.ListN.{length, getD}
-use Rattle.task.specs.Problem.{no-link}
+use Rattle.tables.specs.Problem.{no-link}
 use Rattle.task.specs.Walk.{Walkable, Stepped}
-use Rattle.task.proofs.Walks.{chain-none, walk-within, walk-step, walk-falls}
+use Rattle.tables.proofs.Walks.{walk-falls}
+use Rattle.task.proofs.Steps.{chain-none, walk-within, walk-step}
 use Rattle.task.proofs.chain.ChainIterator.next.Needs as need
 
 pub returns-then-self-eq0 : need.returns-then-self-eq0

@@ -1,0 +1,5 @@
+pub mod Problem
+pub mod Chains
+pub mod Faults
+pub mod Check
+pub mod Rules

@@ -1,0 +1,4 @@
+pub mod Answers
+pub mod Filled
+pub mod Texts
+pub mod Unread
