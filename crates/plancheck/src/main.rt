@@ -1,4 +1,7 @@
-// Checks the tables of one small task and a plan of it, and prints what it did.
+// Checks the tables of one small task and a plan of it, asks the estimators on the way, and prints what it did.
+use estimate::estimate::Estimate;
+use estimate::estimator::Estimator;
+use estimate::simple::*;
 use std::error::AnyError;
 use tables::fault::TaskFault;
 use tables::*;
@@ -86,9 +89,43 @@ fn say_plan_fault(rt: &impl Print, fault: PlanFault) -> Result<(), AnyError> {
     Ok(())
 }
 
-// Prints each move of a list with the pads after it, as far as the moves are allowed.
+// Prints what one estimator answers about a state.
+fn say_estimate<E: Estimator>(
+    rt: &impl Print,
+    name: &str,
+    estimator: &E,
+    task: &Task,
+    state: &State,
+) -> Result<(), AnyError> {
+    match estimator.ask(task, state) {
+        Estimate::AtLeast(n) => println!(rt, "  {name}: at least {n}")?,
+        Estimate::Dead => println!(rt, "  {name}: dead")?,
+    }
+    Ok(())
+}
+
+// Prints what each estimator answers about a state.
+fn say_estimates(rt: &impl Print, task: &Task, state: &State) -> Result<(), AnyError> {
+    say_estimate(rt, "zero", &Zero, task, state)?;
+    say_estimate(rt, "floor", &Floor, task, state)?;
+    say_estimate(
+        rt,
+        "larger of both",
+        &LargerOf {
+            first: Zero,
+            second: Floor,
+        },
+        task,
+        state,
+    )
+}
+
+// Prints the estimates at the start, and each move of a list with the pads and the estimates after it, as far as the moves are
+// allowed.
 fn follow(rt: &impl Print, task: &Task, list: &[u32]) -> Result<(), AnyError> {
-    let mut state: State = task.start_state();
+    let mut state = task.start_state();
+    println!(rt, "start: pads 0")?;
+    say_estimates(rt, task, &state)?;
     for m in list {
         let number = *m;
         let Some(next) = task.result(&state, number) else {
@@ -99,6 +136,7 @@ fn follow(rt: &impl Print, task: &Task, list: &[u32]) -> Result<(), AnyError> {
         let pads = next.values[0];
         println!(rt, "move {number} {name}: pads {pads}")?;
         state = next;
+        say_estimates(rt, task, &state)?;
     }
     Ok(())
 }
@@ -120,12 +158,11 @@ fn run(rt: &impl Print) -> Result<(), AnyError> {
         Ok(()) => {
             let task = Task::new(tables);
             println!(rt, "tables accepted")?;
-            follow(rt, &task, &PLAN)?;
             match task.check_plan(&PLAN) {
                 Ok(cost) => println!(rt, "plan passed, cost {cost}")?,
                 Err(fault) => say_plan_fault(rt, fault)?,
             }
-            Ok(())
+            follow(rt, &task, &PLAN)
         }
     }
 }

@@ -46,77 +46,80 @@ fn long_lists(rt: LibcRuntime) -> Result<(), Fail> {
 
 // One quantity from 0 to 9 at 4 and two facts, the first holding. Move 1 clears and sets fact 0 and sets fact 1; move 2 clears
 // fact 0; move 3 needs fact 1 and takes 5 from the quantity.
+static NINE: [Quantity; 1] = [Quantity {
+    lowest: 0,
+    highest: 9,
+    start: 4,
+}];
+
+static THREE: [Move; 3] = [
+    Move {
+        cost: 1,
+        needs: 0,
+        effects: 1,
+    },
+    Move {
+        cost: 1,
+        needs: 0,
+        effects: 4,
+    },
+    Move {
+        cost: 1,
+        needs: 5,
+        effects: 6,
+    },
+];
+
+static SIX: [Link; 6] = [
+    Link {
+        kind: 4,
+        subject: 0,
+        amount: 0,
+        next: 2,
+    },
+    Link {
+        kind: 5,
+        subject: 0,
+        amount: 0,
+        next: 3,
+    },
+    Link {
+        kind: 4,
+        subject: 1,
+        amount: 0,
+        next: 0,
+    },
+    Link {
+        kind: 5,
+        subject: 0,
+        amount: 0,
+        next: 0,
+    },
+    Link {
+        kind: 2,
+        subject: 1,
+        amount: 0,
+        next: 0,
+    },
+    Link {
+        kind: 6,
+        subject: 1,
+        amount: -5,
+        next: 0,
+    },
+];
+
 fn facts_and_changes(list: &[u32]) -> Option<State> {
-    let quantities = [Quantity {
-        lowest: 0,
-        highest: 9,
-        start: 4,
-    }];
-    let moves = [
-        Move {
-            cost: 1,
-            needs: 0,
-            effects: 1,
-        },
-        Move {
-            cost: 1,
-            needs: 0,
-            effects: 4,
-        },
-        Move {
-            cost: 1,
-            needs: 5,
-            effects: 6,
-        },
-    ];
-    let links = [
-        Link {
-            kind: 4,
-            subject: 0,
-            amount: 0,
-            next: 2,
-        },
-        Link {
-            kind: 5,
-            subject: 0,
-            amount: 0,
-            next: 3,
-        },
-        Link {
-            kind: 4,
-            subject: 1,
-            amount: 0,
-            next: 0,
-        },
-        Link {
-            kind: 5,
-            subject: 0,
-            amount: 0,
-            next: 0,
-        },
-        Link {
-            kind: 2,
-            subject: 1,
-            amount: 0,
-            next: 0,
-        },
-        Link {
-            kind: 6,
-            subject: 1,
-            amount: -5,
-            next: 0,
-        },
-    ];
     let tables = Tables {
         head: Head {
             facts: 2,
             start: 1,
             goal: 0,
         },
-        quantities: &quantities,
+        quantities: &NINE,
         conditions: &[],
-        moves: &moves,
-        links: &links,
+        moves: &THREE,
+        links: &SIX,
     };
     match tables.check() {
         Err(_) => None,

@@ -61,7 +61,7 @@ pub static PAD_LINKS: [Link; 4] = [
     },
 ];
 
-pub fn pads<'a>(conditions: &'a [Condition]) -> Tables<'a> {
+pub(crate) fn pads<'a>(conditions: &'a [Condition]) -> Tables<'a> {
     Tables {
         head: Head {
             facts: 0,
@@ -76,7 +76,7 @@ pub fn pads<'a>(conditions: &'a [Condition]) -> Tables<'a> {
 }
 
 // The check's answer: number, table, record, link; all 0 where the tables are accepted.
-pub fn told(tables: &Tables) -> [u32; 4] {
+pub(crate) fn told(tables: &Tables) -> [u32; 4] {
     match tables.check() {
         Ok(()) => [0, 0, 0, 0],
         Err(fault) => {
@@ -87,7 +87,7 @@ pub fn told(tables: &Tables) -> [u32; 4] {
 }
 
 // The plan check's answer: the cost, number and position; number and position 0 where the list passes.
-pub fn judged(tables: Tables, list: &[u32]) -> [u64; 3] {
+pub(crate) fn judged(tables: Tables, list: &[u32]) -> [u64; 3] {
     match tables.check() {
         Err(_) => [0, 99, 99],
         Ok(()) => match Task::new(tables).check_plan(list) {

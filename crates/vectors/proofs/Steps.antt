@@ -19,7 +19,7 @@ use Rattle.vectors.specs.Answers.{block-answers, waiting, served, after-check}
 use Rattle.vectors.specs.declared.answer.Answer.{Answer}
 use Rattle.vectors.specs.declared.answer.Answer.the-variants.{Accepted}
 use Rattle.vectors.specs.declared.directive.Directive.{Directive}
-use Rattle.vectors.specs.declared.directive.Directive.the-variants.{Accept, Check, Later, Malformed}
+use Rattle.vectors.specs.declared.directive.Directive.the-variants.{Accept, Check, Est, Later, Malformed}
 
 pub pushed-more : {X Y : Type 0} (f : X → Y) (xs : List X) (i : ℕ) (x : X) (start out out′ : List Y) (y : Y)
     → i < length xs → x ≡ getD xs i x → y ≡ f x → out ≡ start ++ map f (take i xs) → out′ ≡ out ++ y ∷ []
@@ -33,6 +33,7 @@ pub before-accept : (p : Problem) (d : Directive) (ds : List Directive) → (d �
 unfolding block-answers
 before-accept p Accept ds other = absurd (other refl)
 before-accept p (Check v) ds other = refl
+before-accept p (Est a s) ds other = refl
 before-accept p Later ds other = refl
 before-accept p (Malformed n) ds other = refl
 

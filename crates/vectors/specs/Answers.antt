@@ -14,10 +14,12 @@ use Rattle.task.specs.Plans.{plan-answer}
 use Rattle.tables.specs.Problem.{Problem}
 use Rattle.tables.specs.declared.fault.TaskFault.{TaskFault}
 use Rattle.task.specs.declared.plan.PlanFault.{PlanFault}
+use Rattle.vectors.specs.Asked.{asked-answer}
+use Rattle.vectors.specs.Told.{told-estimate}
 use Rattle.vectors.specs.declared.answer.Answer.{Answer}
 use Rattle.vectors.specs.declared.answer.Answer.the-variants.{Accepted, RefusedTask, Cost, RefusedPlan, NothingAccepted, NotServed, BadLine}
 use Rattle.vectors.specs.declared.directive.Directive.{Directive}
-use Rattle.vectors.specs.declared.directive.Directive.the-variants.{Accept, Check, Later, Malformed}
+use Rattle.vectors.specs.declared.directive.Directive.the-variants.{Accept, Check, Est, Later, Malformed}
 
 abbrev pub told-plan : Result ℕ PlanFault → Answer
 told-plan (Ok cost) = Cost cost
@@ -26,12 +28,14 @@ told-plan (Err fault) = RefusedPlan fault
 abbrev pub waiting : Directive → Answer
 waiting Accept = NothingAccepted
 waiting (Check v) = NothingAccepted
+waiting (Est a s) = NothingAccepted
 waiting Later = NothingAccepted
 waiting (Malformed n) = BadLine n
 
 abbrev pub served : Problem → Directive → Answer
 served p Accept = Accepted
 served p (Check v) = told-plan (plan-answer p (vec-items v))
+served p (Est a s) = told-estimate (asked-answer a p s)
 served p Later = NotServed
 served p (Malformed n) = BadLine n
 
@@ -43,5 +47,6 @@ unfoldable pub block-answers : Problem → List Directive → List Answer
 block-answers p [] = []
 block-answers p (Accept ∷ ds) = after-check p ds (told (first-fault p))
 block-answers p (Check v ∷ ds) = waiting (Check v) ∷ block-answers p ds
+block-answers p (Est a s ∷ ds) = waiting (Est a s) ∷ block-answers p ds
 block-answers p (Later ∷ ds) = waiting Later ∷ block-answers p ds
 block-answers p (Malformed n ∷ ds) = waiting (Malformed n) ∷ block-answers p ds

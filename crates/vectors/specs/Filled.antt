@@ -9,7 +9,7 @@ use Rattle.std.specs.Of.Vec.{vec-items}
 use Rattle.tables.specs.Problem.{Problem}
 use Rattle.vectors.specs.declared.block.Block.{Block}
 use Rattle.vectors.specs.declared.directive.Directive.{Directive}
-use Rattle.vectors.specs.declared.directive.Directive.the-variants.{Accept, Check, Later, Malformed}
+use Rattle.vectors.specs.declared.directive.Directive.the-variants.{Accept, Check, Est, Later, Malformed}
 use Rattle.vectors.specs.declared.records.Record.{Record}
 use Rattle.vectors.specs.declared.records.Record.the-variants.{Head, Quantity, Condition, Move, Link}
 
@@ -30,5 +30,6 @@ added p (Link l) = record { head = p .head; quantities = p .quantities; conditio
 abbrev pub closes : Directive → Bool
 closes Accept = true
 closes (Check v) = false
+closes (Est a s) = false
 closes Later = false
 closes (Malformed n) = false

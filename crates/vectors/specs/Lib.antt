@@ -1,4 +1,6 @@
 pub mod Answers
+pub mod Asked
 pub mod Filled
 pub mod Texts
+pub mod Told
 pub mod Unread

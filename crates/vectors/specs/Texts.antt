@@ -11,7 +11,7 @@ use Rattle.task.specs.Plans.{plan-number, plan-position}
 use Rattle.tables.specs.declared.fault.TaskFault.{TaskFault}
 use Rattle.task.specs.declared.plan.PlanFault.{PlanFault}
 use Rattle.vectors.specs.declared.answer.Answer.{Answer}
-use Rattle.vectors.specs.declared.answer.Answer.the-variants.{Accepted, RefusedTask, Cost, RefusedPlan, NothingAccepted, NotServed, BadLine}
+use Rattle.vectors.specs.declared.answer.Answer.the-variants.{Accepted, RefusedTask, Cost, RefusedPlan, AtLeast, Dead, NothingAccepted, NotServed, BadLine}
 
 abbrev pub task-fault-text : TaskFault → List ℕ
 task-fault-text fault =
@@ -26,6 +26,8 @@ text Accepted = codes "accepted"
 text (RefusedTask fault) = task-fault-text fault
 text (Cost cost) = codes "cost " ++ decimal cost
 text (RefusedPlan fault) = plan-fault-text fault
+text (AtLeast n) = codes "atleast " ++ decimal n
+text Dead = codes "dead"
 text NothingAccepted = codes "nothing accepted"
 text NotServed = codes "later"
 text (BadLine line) = codes "malformed " ++ decimal line

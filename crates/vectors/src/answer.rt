@@ -1,7 +1,10 @@
 // What a directive is answered: one line of the output.
 ghost use Rattle.std.specs.declared.option.Option.the-variants.{Some};
 ghost use Rattle.std.specs.Written.{Prints};
+ghost use mathlib.Core.Path.{_≡_};
+ghost use Rattle.vectors.specs.Told.{told-estimate};
 ghost use Rattle.vectors.specs.Texts.{text, task-fault-text, plan-fault-text};
+use estimate::estimate::Estimate;
 use std::fmt;
 use tables::fault::TaskFault;
 use task::plan::PlanFault;
@@ -14,9 +17,21 @@ pub enum Answer {
     RefusedTask(TaskFault),
     Cost(u64),
     RefusedPlan(PlanFault),
+    AtLeast(u64),
+    Dead,
     NothingAccepted,
     NotServed,
     BadLine(u64),
+}
+
+// The answer to a question to an estimator.
+pub fn told_estimate(estimate: Estimate) -> Answer
+    ensures { λ r. ⌜ r ≡ told-estimate estimate ⌝ }
+{
+    match estimate {
+        Estimate::AtLeast(n) => Answer::AtLeast(n),
+        Estimate::Dead => Answer::Dead,
+    }
 }
 
 pub impl fmt::Display for Answer as AnswerDisplay {
@@ -28,6 +43,8 @@ pub impl fmt::Display for Answer as AnswerDisplay {
             Answer::RefusedTask(fault) => show_task_fault(*fault, f),
             Answer::Cost(cost) => write!(f, "cost {cost}"),
             Answer::RefusedPlan(fault) => show_plan_fault(*fault, f),
+            Answer::AtLeast(n) => write!(f, "atleast {n}"),
+            Answer::Dead => f.write_str("dead"),
             Answer::NothingAccepted => f.write_str("nothing accepted"),
             Answer::NotServed => f.write_str("later"),
             Answer::BadLine(line) => write!(f, "malformed {line}"),

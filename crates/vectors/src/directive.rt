@@ -1,9 +1,11 @@
 // What a line says.
+use crate::estimates::*;
 use crate::plans::*;
 use crate::records::*;
 use crate::words::*;
 use std::alloc::AllocError;
 use std::alloc::Global;
+use task::state::State;
 
 // What a block asks of the library. `Later` stands for a directive that is known and not served yet, and `Malformed` for a line
 // that says nothing, by its number.
@@ -11,6 +13,7 @@ use std::alloc::Global;
 pub enum Directive {
     Accept,
     Check(Vec<u32>),
+    Est(Asked, State),
     Later,
     Malformed(u64),
 }
@@ -24,7 +27,7 @@ pub enum Line {
 }
 
 // What the line with a number says.
-pub fn read_line(heap: Global, number: u64, bytes: &[u8]) -> Result<Line, AllocError> {
+pub(crate) fn read_line(heap: Global, number: u64, bytes: &[u8]) -> Result<Line, AllocError> {
     let Ok(text) = std::str::from_utf8(bytes) else {
         return Ok(Line::Ask(Directive::Malformed(number)));
     };
@@ -63,7 +66,8 @@ fn read_directive(heap: Global, name: &str, words: Words) -> Result<Directive, L
             Ok(Directive::Accept)
         }
         "check" => read_check(heap, words),
-        "est" | "grounds" | "open" | "advance" | "bound" | "plan" | "rows" | "lines" => Ok(
+        "est" => read_est(words),
+        "grounds" | "open" | "advance" | "bound" | "plan" | "rows" | "lines" => Ok(
             Directive::Later,
         ),
         _ => Err(LineFault::Malformed),

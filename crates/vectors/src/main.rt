@@ -2,6 +2,7 @@
 mod answer;
 mod block;
 mod directive;
+mod estimates;
 mod plans;
 mod records;
 mod serve;

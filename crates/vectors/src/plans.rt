@@ -10,7 +10,7 @@ use std::alloc::Global;
 use task::accepted::Task;
 
 // `check M1 M2 ..`: any number of moves.
-pub fn read_check(heap: Global, words: Words) -> Result<Directive, LineFault> {
+pub(crate) fn read_check(heap: Global, words: Words) -> Result<Directive, LineFault> {
     Ok(Directive::Check(words.numbers(heap)?))
 }
 

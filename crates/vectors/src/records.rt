@@ -16,7 +16,7 @@ pub enum Record {
     Link(Link),
 }
 
-pub fn read_head(mut words: Words) -> Result<Record, LineFault> {
+pub(crate) fn read_head(mut words: Words) -> Result<Record, LineFault> {
     let facts = words.number()?;
     let start = words.number()?;
     let goal = words.number()?;
@@ -24,7 +24,7 @@ pub fn read_head(mut words: Words) -> Result<Record, LineFault> {
     Ok(Record::Head(Head { facts, start, goal }))
 }
 
-pub fn read_quantity(mut words: Words) -> Result<Record, LineFault> {
+pub(crate) fn read_quantity(mut words: Words) -> Result<Record, LineFault> {
     let lowest = words.number()?;
     let highest = words.number()?;
     let start = words.number()?;
@@ -36,7 +36,7 @@ pub fn read_quantity(mut words: Words) -> Result<Record, LineFault> {
     }))
 }
 
-pub fn read_condition(mut words: Words) -> Result<Record, LineFault> {
+pub(crate) fn read_condition(mut words: Words) -> Result<Record, LineFault> {
     let kind = words.number()?;
     let bound = words.number()?;
     let terms = words.number()?;
@@ -60,7 +60,7 @@ fn cost_field(written: i64) -> Option<i32>
     Some(written as i32)
 }
 
-pub fn read_move(mut words: Words) -> Result<Record, LineFault> {
+pub(crate) fn read_move(mut words: Words) -> Result<Record, LineFault> {
     let Some(cost) = cost_field(words.number()?) else {
         return Err(LineFault::Malformed);
     };
@@ -74,7 +74,7 @@ pub fn read_move(mut words: Words) -> Result<Record, LineFault> {
     }))
 }
 
-pub fn read_link(mut words: Words) -> Result<Record, LineFault> {
+pub(crate) fn read_link(mut words: Words) -> Result<Record, LineFault> {
     let kind = words.number()?;
     let subject = words.number()?;
     let amount = words.number()?;

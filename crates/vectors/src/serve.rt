@@ -11,6 +11,7 @@ ghost use Rattle.vectors.specs.Filled.{filled};
 use crate::answer::*;
 use crate::block::*;
 use crate::directive::*;
+use crate::estimates::*;
 use crate::plans;
 use std::alloc::AllocError;
 use std::alloc::Global;
@@ -76,6 +77,7 @@ fn serve(task: &Task, directive: &Directive) -> Answer
     match directive {
         Directive::Accept => Answer::Accepted,
         Directive::Check(list) => plans::check(task, list.as_slice()),
+        Directive::Est(asked, state) => told_estimate(estimate_of(*asked, task, state)),
         Directive::Later => Answer::NotServed,
         Directive::Malformed(line) => Answer::BadLine(*line),
     }

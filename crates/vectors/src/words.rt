@@ -68,7 +68,7 @@ impl<'a> Words<'a> {
     }
 
     // The rest of the words as numbers, as many as there are.
-    pub fn numbers(self, heap: Global) -> Result<Vec<u32>, LineFault> {
+    pub(crate) fn numbers(self, heap: Global) -> Result<Vec<u32>, LineFault> {
         let mut list = Vec::new(heap);
         for word in self.rest {
             match word.parse::<u32>() {

@@ -1,0 +1,2 @@
+pub mod Estimates
+pub mod Answers

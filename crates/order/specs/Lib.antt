@@ -1,0 +1,3 @@
+pub mod Ranks
+pub mod Shape
+pub mod Laws
