@@ -15,3 +15,14 @@ pub mod Loop
 pub mod Explains
 pub mod Counting
 pub mod Same
+pub mod Picks
+pub mod Crossed
+pub mod Paying
+pub mod Closing
+pub mod Starting
+pub mod Bridges
+pub mod Prepared
+pub mod Offers
+pub mod Settling
+pub mod Queues
+pub mod Turns

@@ -3,3 +3,8 @@ pub mod Rounds
 pub mod Laws
 pub mod Questions
 pub mod Worked
+pub mod Drawn
+pub mod Preferred
+pub mod Spreading
+pub mod Valued
+pub mod Queued

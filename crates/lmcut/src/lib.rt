@@ -2,7 +2,12 @@
 ghost use Rattle.lmcut.specs.Laws.{EstimateSound, GroundsStand, GroundsExplain, SizesStand, CountsStand, RelaxedFits, ValuesSettle, ValuesOnly, CutStands, RoundsEnd, GoalZoneOnly, StartZoneOnly};
 ghost use Rattle.lmcut.specs.Worked.{Worked};
 
+mod charges;
+mod choice;
+mod landmark;
 pub mod question;
+mod spread;
+mod values;
 
 // The laws of the estimator: what it answers is sound, its landmark records stand, come in order and explain the answer, and its
 // numbers fit 64 bits.
