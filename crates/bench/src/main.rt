@@ -1,5 +1,7 @@
 // Asks LM-cut about the states along a walk of two tasks, a small one and one with the largest tables, and prints what its answers
 // add up to. With a word as argument it also prints the time of a question, in nanoseconds.
+#![tactic(auto)]
+
 mod samples;
 
 use crate::samples::*;

@@ -1,5 +1,7 @@
 // LM-cut by rounds: its definition, and the laws that make it a lower bound on the cost of every plan from a state of a simple
 // numeric planning task.
+#![tactic(auto)]
+
 ghost use Rattle.landmarks.specs.Laws.{EstimateSound, GroundsStand, GroundsExplain, SizesStand, CountsStand, RelaxedFits, ValuesSettle, ValuesOnly, CutStands, RoundsEnd, GoalZoneOnly, StartZoneOnly};
 ghost use Rattle.landmarks.specs.Worked.{Worked};
 

@@ -1,5 +1,7 @@
 // The LM-cut estimator: a lower bound on the cost of every plan from a state of a simple numeric planning task, and the landmark
 // records that it comes from.
+#![tactic(auto)]
+
 mod bits;
 mod charges;
 mod choice;

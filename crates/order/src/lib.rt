@@ -1,5 +1,7 @@
 // A binary min-heap over a lent slice, for entries of any type that has a total order.
 // Its contracts say which entries are held, and that what is told or taken is at most each of them.
+#![tactic(auto)]
+
 ghost use Rattle.std.specs.Prelude.{◌≡◌};
 ghost use Rattle.order.specs.Laws.{Lawful};
 

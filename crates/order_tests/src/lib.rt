@@ -1,4 +1,6 @@
 // Two entry types with orders of their own, and heaps of them.
+#![tactic(auto)]
+
 ghost use Rattle.std.specs.Prelude.{◌≡◌, ◌⊎◌, MatchOption};
 ghost use Rattle.order_tests.specs.Fields.{Before, Sooner};
 

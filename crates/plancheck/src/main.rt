@@ -1,4 +1,6 @@
 // Checks the tables of one small task and a plan of it, asks the estimators on the way, and prints what it did.
+#![tactic(auto)]
+
 use estimate::estimate::Estimate;
 use estimate::estimator::Estimator;
 use estimate::simple::*;

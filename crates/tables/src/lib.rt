@@ -1,6 +1,8 @@
 // The flat tables of a simple numeric planning task, as a caller lends them, and the check that accepts or refuses them.
 // Every number type is wide enough to hold a wrong number, so that the check, and no reader before it, refuses it.
 // Quantities, conditions, moves and links are numbered from 1, facts from 0.
+#![tactic(auto)]
+
 pub mod check;
 pub mod fault;
 

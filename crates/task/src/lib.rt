@@ -1,4 +1,6 @@
 // Simple numeric planning tasks over accepted tables: the accepted task, states, moves, plans and the plan check.
+#![tactic(auto)]
+
 pub mod accepted;
 pub mod chain;
 pub mod holds;

@@ -1,4 +1,6 @@
 // Reads blocks in a text format on standard input, runs what they ask on the library and prints the answers.
+#![tactic(auto)]
+
 mod answer;
 mod estimates;
 mod grounds;
