@@ -15,45 +15,45 @@ full p r e =
     let same : is_ok r ≡ accepted p = ap is_ok e ∙ told_accepts p in
     record { told = e; accepts = same; exact = Decides-at (is_ok r) (accepted p) same (decides_accepted p) }
 
-pub returns-in-err-check-sizes : goal.returns-in-err-check-sizes
+pub returns-in_err-check_sizes : goal.returns-in_err-check_sizes
 unfolding first_fault
-returns-in-err-check-sizes c =
-    let p = err_from_is_err_and c.from-residual.result c.from-residual.ensures.1 in
-    let e = told_err _ _ (sym c.check-sizes.ensures ∙ c.in-err-check-sizes.was) in
+returns-in_err-check_sizes c =
+    let p = err_from_is_err_and c.from_residual.result c.from_residual.ensures.1 in
+    let e = told_err _ _ (sym c.check_sizes.ensures ∙ c.in_err-check_sizes.was) in
     full _ _ (p.1 ∙ ap Err p.2 ∙ sym (ap told (or_some _ _ _ e)))
 
-pub returns-in-err-check-quantities : goal.returns-in-err-check-quantities
+pub returns-in_err-check_quantities : goal.returns-in_err-check_quantities
 unfolding first_fault
-returns-in-err-check-quantities c =
-    let p = err_from_is_err_and c.from-residual-in-err-check-quantities.result c.from-residual-in-err-check-quantities.ensures.1 in
-    let n0 = told_ok _ (sym c.check-sizes.ensures ∙ c.in-ok-check-sizes.was) in
-    let e = told_err _ _ (sym c.check-quantities.ensures ∙ c.in-err-check-quantities.was) in
+returns-in_err-check_quantities c =
+    let p = err_from_is_err_and c.from_residual-in_err-check_quantities.result c.from_residual-in_err-check_quantities.ensures.1 in
+    let n0 = told_ok _ (sym c.check_sizes.ensures ∙ c.in_ok-check_sizes.was) in
+    let e = told_err _ _ (sym c.check_quantities.ensures ∙ c.in_err-check_quantities.was) in
     full _ _ (p.1 ∙ ap Err p.2 ∙ sym (ap told (or_skip _ _ n0 ∙ or_some _ _ _ e)))
 
-pub returns-in-err-check-conditions : goal.returns-in-err-check-conditions
+pub returns-in_err-check_conditions : goal.returns-in_err-check_conditions
 unfolding first_fault
-returns-in-err-check-conditions c =
-    let p = err_from_is_err_and c.from-residual-in-err-check-conditions.result c.from-residual-in-err-check-conditions.ensures.1 in
-    let n0 = told_ok _ (sym c.check-sizes.ensures ∙ c.in-ok-check-sizes.was) in
-    let n1 = told_ok _ (sym c.check-quantities.ensures ∙ c.in-ok-check-quantities.was) in
-    let e = told_err _ _ (sym c.check-conditions.ensures ∙ c.in-err-check-conditions.was) in
+returns-in_err-check_conditions c =
+    let p = err_from_is_err_and c.from_residual-in_err-check_conditions.result c.from_residual-in_err-check_conditions.ensures.1 in
+    let n0 = told_ok _ (sym c.check_sizes.ensures ∙ c.in_ok-check_sizes.was) in
+    let n1 = told_ok _ (sym c.check_quantities.ensures ∙ c.in_ok-check_quantities.was) in
+    let e = told_err _ _ (sym c.check_conditions.ensures ∙ c.in_err-check_conditions.was) in
     full _ _ (p.1 ∙ ap Err p.2 ∙ sym (ap told (or_skip _ _ n0 ∙ or_skip _ _ n1 ∙ or_some _ _ _ e)))
 
-pub returns-in-err-check-moves : goal.returns-in-err-check-moves
+pub returns-in_err-check_moves : goal.returns-in_err-check_moves
 unfolding first_fault
-returns-in-err-check-moves c =
-    let p = err_from_is_err_and c.from-residual-in-err-check-moves.result c.from-residual-in-err-check-moves.ensures.1 in
-    let n0 = told_ok _ (sym c.check-sizes.ensures ∙ c.in-ok-check-sizes.was) in
-    let n1 = told_ok _ (sym c.check-quantities.ensures ∙ c.in-ok-check-quantities.was) in
-    let n2 = told_ok _ (sym c.check-conditions.ensures ∙ c.in-ok-check-conditions.was) in
-    let e = told_err _ _ (sym c.check-moves.ensures ∙ c.in-err-check-moves.was) in
+returns-in_err-check_moves c =
+    let p = err_from_is_err_and c.from_residual-in_err-check_moves.result c.from_residual-in_err-check_moves.ensures.1 in
+    let n0 = told_ok _ (sym c.check_sizes.ensures ∙ c.in_ok-check_sizes.was) in
+    let n1 = told_ok _ (sym c.check_quantities.ensures ∙ c.in_ok-check_quantities.was) in
+    let n2 = told_ok _ (sym c.check_conditions.ensures ∙ c.in_ok-check_conditions.was) in
+    let e = told_err _ _ (sym c.check_moves.ensures ∙ c.in_err-check_moves.was) in
     full _ _ (p.1 ∙ ap Err p.2 ∙ sym (ap told (or_skip _ _ n0 ∙ or_skip _ _ n1 ∙ or_skip _ _ n2 ∙ or_some _ _ _ e)))
 
 pub returns : goal.returns
 unfolding first_fault
 returns c =
-    let n0 = told_ok _ (sym c.check-sizes.ensures ∙ c.in-ok-check-sizes.was) in
-    let n1 = told_ok _ (sym c.check-quantities.ensures ∙ c.in-ok-check-quantities.was) in
-    let n2 = told_ok _ (sym c.check-conditions.ensures ∙ c.in-ok-check-conditions.was) in
-    let n3 = told_ok _ (sym c.check-moves.ensures ∙ c.in-ok-check-moves.was) in
-    full _ _ (c.check-goal.ensures ∙ sym (ap told (or_skip _ _ n0 ∙ or_skip _ _ n1 ∙ or_skip _ _ n2 ∙ or_skip _ _ n3)))
+    let n0 = told_ok _ (sym c.check_sizes.ensures ∙ c.in_ok-check_sizes.was) in
+    let n1 = told_ok _ (sym c.check_quantities.ensures ∙ c.in_ok-check_quantities.was) in
+    let n2 = told_ok _ (sym c.check_conditions.ensures ∙ c.in_ok-check_conditions.was) in
+    let n3 = told_ok _ (sym c.check_moves.ensures ∙ c.in_ok-check_moves.was) in
+    full _ _ (c.check_goal.ensures ∙ sym (ap told (or_skip _ _ n0 ∙ or_skip _ _ n1 ∙ or_skip _ _ n2 ∙ or_skip _ _ n3)))
