@@ -17,8 +17,8 @@ use tables::*;
 impl Task<'_> {
     // The state at the start.
     pub fn start_state(&self) -> State
-        ensures* is { λ r. ⌜ r ≡ start_state (problem self.now) ⌝ }
-        ensures* state { λ r. ⌜ is_state (problem self.now) r ≡ true ⌝ }
+        ensures is { result ≡ start_state (problem self.now) }
+        ensures state { is_state (problem self.now) result ≡ true }
     {
         let mut values = [0; 16];
         for (i, quantity) in self.tables.quantities.iter().enumerate() {
@@ -32,7 +32,7 @@ impl Task<'_> {
 
     // Whether a value may stand at an index in a state: in the quantity's range, or 0 past the last quantity.
     fn value_fits(&self, i: usize, value: i32) -> bool
-        ensures* { λ r. ⌜ r ≡ value_fits (problem self.now).quantities i value ⌝ }
+        ensures { result ≡ value_fits (problem self.now).quantities i value }
     {
         if i < self.tables.quantities.len() {
             self.tables.quantities[i].holds(value)
@@ -43,7 +43,7 @@ impl Task<'_> {
 
     // Whether a record is a state of the task.
     pub fn is_state(&self, state: &State) -> bool
-        ensures* { λ r. ⌜ r ≡ is_state (problem self.now) state.now ⌝ }
+        ensures { result ≡ is_state (problem self.now) state.now }
     {
         if !is_below(state.facts, self.tables.head.facts) {
             return false;
@@ -59,7 +59,7 @@ impl Task<'_> {
     // The value of a quantity after a change, where it stays in its range.
     fn changed(&self, change: &Link, state: &State) -> Option<i32>
         requires { (1 ≤ change.now.subject) × (change.now.subject ≤ length (problem self.now).quantities) }
-        ensures* { λ r. ⌜ r ≡ (if in_range (quantity_at (problem self.now) change.now.subject) (changed state.now change.now) then Some (changed state.now change.now) else None) ⌝ }
+        ensures { result ≡ (if in_range (quantity_at (problem self.now) change.now.subject) (changed state.now change.now) then Some (changed state.now change.now) else None) }
     {
         let at = change.subject as usize - 1;
         let value = state.values[at].checked_add(change.amount)?;
@@ -74,7 +74,7 @@ impl Task<'_> {
     // none where a quantity that they change would leave its range.
     fn effected(&self, first: u32, state: &State) -> Option<State>
         requires { ChainKeeps (problem self.now) Effects first }
-        ensures* { λ r. ⌜ r ≡ after_effects (problem self.now) state.now (chain (problem self.now).links first) ⌝ }
+        ensures { result ≡ after_effects (problem self.now) state.now (chain (problem self.now).links first) }
     {
         let mut values = state.values;
         let mut sets = 0u64;
@@ -98,8 +98,8 @@ impl Task<'_> {
 
     // The result of a move, at any record, where it is allowed there. At a state, `MovesMean` says what that means.
     pub fn result(&self, state: &State, number: u32) -> Option<State>
-        ensures* is { λ r. ⌜ r ≡ result_of (problem self.now) state.now number ⌝ }
-        ensures* means { λ _. ⌜ (is_state (problem self.now) state.now ≡ true → MovesMean (problem self.now) state.now number) ⌝ }
+        ensures is { result ≡ result_of (problem self.now) state.now number }
+        ensures means { (is_state (problem self.now) state.now ≡ true → MovesMean (problem self.now) state.now number) }
     {
         if number == 0 || number as usize > self.tables.moves.len() {
             return None;
@@ -113,7 +113,7 @@ impl Task<'_> {
 
     // Whether a move is allowed, at any record.
     pub fn allowed(&self, state: &State, number: u32) -> bool
-        ensures* { λ r. ⌜ r ≡ allowed (problem self.now) state.now number ⌝ }
+        ensures { result ≡ allowed (problem self.now) state.now number }
     {
         self.result(state, number).is_some()
     }

@@ -9,5 +9,5 @@ pub returns : goal.returns
 returns c =
     let p = problem c.args.self.now in
     let f : SFits w32 (move_at p c.args.number).cost = search rules in
-    let e : c.from.result ≡ nat_abs (move_at p c.args.number).cost = c.from.ensures ∙ c.unsigned-abs.ensures.value ∙ ap nat_abs (to_z-of_z w32 _ f) in
+    let e : c.from.result ≡ nat_abs (move_at p c.args.number).cost = c.from.ensures ∙ c.unsigned_abs.ensures.value ∙ ap nat_abs (to_z-of_z w32 _ f) in
     record { is = e; small = subst (λ n. n ≤ 10000) (sym e) (move_keeps p _ (kept_rules c.args.self.now) c.requires.0 c.requires.1).cost_high }

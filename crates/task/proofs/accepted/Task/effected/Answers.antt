@@ -13,7 +13,7 @@ use Rattle.task.proofs.accepted.Task.effected.Goals as goal
 
 pub loop-link-init : goal.loop-link-init
 loop-link-init c =
-    let it = c.into-iter-link-iterator.ensures.into-iter-gives in
+    let it = c.into_iter-link-iterator.ensures.into_iter_gives in
     let p = problem c.args.self.now in
     let s = c.args.state.now in
     let links = ap (λ k. k.links.now) it ∙ c.new-link-items.ensures.0 in
@@ -25,14 +25,14 @@ loop-link-init c =
       record { going = g; keeps = ap (stays p s) same; sets_left = ap made same; clears_left = ap cleared same; values_left = ap (values_after s) same; long = search rules; sets_fit = omega arith; clears_fit = omega arith },
     )
 
-pub overflow-shl-sets : goal.overflow-shl-sets
-overflow-shl-sets c =
+pub overflow_shl-sets : goal.overflow_shl-sets
+overflow_shl-sets c =
     let e = c.in-Some.ensures in
     let g = going_step _ Effects _ _ _ _ _ c.loop-link.invariant.2.going e.steps (e.goes.on tt) in
     effect_fact _ _ (kept_rules c.args.self.now) g.fits (inl c.if-link-eq4.true)
 
-pub overflow-shl-clears : goal.overflow-shl-clears
-overflow-shl-clears c =
+pub overflow_shl-clears : goal.overflow_shl-clears
+overflow_shl-clears c =
     let e = c.in-Some.ensures in
     let g = going_step _ Effects _ _ _ _ _ c.loop-link.invariant.2.going e.steps (e.goes.on tt) in
     effect_fact _ _ (kept_rules c.args.self.now) g.fits (inr c.if-link-eq5.true)
@@ -59,8 +59,8 @@ changed-requires c =
     let g = going_step _ Effects _ _ _ _ _ c.loop-link.invariant.2.going e.steps (e.goes.on tt) in
     effect_quantity _ _ g.fits c.if-link-eq4.false c.if-link-eq5.false
 
-pub overflow-sub-values : goal.overflow-sub-values
-overflow-sub-values c =
+pub overflow_sub-values : goal.overflow_sub-values
+overflow_sub-values c =
     let e = c.in-Some.ensures in
     let g = going_step _ Effects _ _ _ _ _ c.loop-link.invariant.2.going e.steps (e.goes.on tt) in
     (effect_quantity _ _ g.fits c.if-link-eq4.false c.if-link-eq5.false).0
@@ -73,18 +73,18 @@ bounds-values-link c =
     let few = (kept_rules c.args.self.now).few_quantities in
     omega (arith, q.0, q.1, few)
 
-pub returns-in-err-value : goal.returns-in-err-value
-returns-in-err-value c =
+pub returns-in_err-value : goal.returns-in_err-value
+returns-in_err-value c =
     let e = c.in-Some.ensures in
     let g = going_step _ Effects _ _ _ _ _ c.loop-link.invariant.2.going e.steps (e.goes.on tt) in
-    c.from-residual.ensures ∙ effected_out _ _ _ _ _ _ _ _ _ _ _ c.loop-link.invariant.2 g c.if-link-eq4.false c.if-link-eq5.false (under_none _ _ (sym c.changed.ensures ∙ c.in-err-value.was))
+    c.from_residual.ensures ∙ effected_out _ _ _ _ _ _ _ _ _ _ _ c.loop-link.invariant.2 g c.if-link-eq4.false c.if-link-eq5.false (under_none _ _ (sym c.changed.ensures ∙ c.in_err-value.was))
 
 pub loop-link-preserved : goal.loop-link-preserved
 loop-link-preserved c =
     let e = c.in-Some.ensures in
     let g = going_step _ Effects _ _ _ _ _ c.loop-link.invariant.2.going e.steps (e.goes.on tt) in
-    let u = under_some _ _ _ (sym c.changed.ensures ∙ c.in-ok-value.was) in
-    let f : SFits w32 c.in-ok-value.value = search rules in
+    let u = under_some _ _ _ (sym c.changed.ensures ∙ c.in_ok-value.was) in
+    let f : SFits w32 c.in_ok-value.value = search rules in
     let w = effected_change _ _ _ _ _ _ _ _ _ _ _ c.loop-link.invariant.2 g c.if-link-eq4.false c.if-link-eq5.false u.0 in
     (g.rest.can, tt, subst (λ v. Effected (problem c.args.self.now) c.args.state.now (chain (problem c.args.self.now).links c.args.first) c.next.new.self.links.now c.next.new.self.at (set c.loop-link.values (c.in-Some.link.subject - 1) v) c.loop-link.sets c.loop-link.clears) (u.1 ∙ sym (to_z-of_z w32 _ f)) w)
 

@@ -22,8 +22,8 @@ both c =
     let ft : SFits w64 c.total.result = search rules in
     ap₂ ◌-ℤ◌ (to_z-of_z w64 _ fm) (to_z-of_z w64 _ ft)
 
-pub overflow-sub-result : goal.overflow-sub-result
-overflow-sub-result c = subst (SFits w64) (sym (both c)) (size_fits64 (c.mark.result -ℤ c.total.result) (let h = nat_abs_less c.mark.result c.total.result in omega (arith, h, c.mark.ensures.small, c.total.ensures.small)))
+pub overflow_sub-result : goal.overflow_sub-result
+overflow_sub-result c = subst (SFits w64) (sym (both c)) (size_fits64 (c.mark.result -ℤ c.total.result) (let h = nat_abs_less c.mark.result c.total.result in omega (arith, h, c.mark.ensures.small, c.total.ensures.small)))
 
 pub returns : goal.returns
 unfolding gap

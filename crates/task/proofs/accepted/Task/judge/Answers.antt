@@ -11,9 +11,9 @@ returns-then-number-eq0 c =
     sym (judged_no_move _ _ _ _ _ c.loop-i-test.true (no_move_number (problem c.args.self.now) _ (elim c.then-number-eq0.branch [ then-number-eq0-via-then-number-eq0 w ↦ inl w.if-number-eq0.true | then-number-eq0-via-else-number-eq0+then-number-self w ↦ inr w.if-number-self.true ])))
     ∙ c.loop-i.invariant.0
 
-pub returns-in-default : goal.returns-in-default
-returns-in-default c =
-    sym (judged_not_allowed _ _ _ _ _ c.loop-i-test.true (move_number (problem c.args.self.now) _ (omega arith) c.if-number-self.false) (sym c.result.ensures.is ∙ c.in-default.is))
+pub returns-in_default : goal.returns-in_default
+returns-in_default c =
+    sym (judged_not_allowed _ _ _ _ _ c.loop-i-test.true (move_number (problem c.args.self.now) _ (omega arith) c.if-number-self.false) (sym c.result.ensures.is ∙ c.in_default.is))
     ∙ c.loop-i.invariant.0
 
 pub loop-i-preserved : goal.loop-i-preserved
@@ -24,12 +24,12 @@ loop-i-preserved c = (
   omega (arith, c.loop-i.invariant.1, c.cost-spent.ensures.small),
 )
 
-pub returns-then-goal-holds : goal.returns-then-goal-holds
-returns-then-goal-holds c =
+pub returns-then-goal_holds : goal.returns-then-goal_holds
+returns-then-goal_holds c =
     let end : c.loop-i.i ≡ length c.args.list.now = omega arith in
-    sym (cond-true _ _ _ (sym c.if-goal-holds.ensures)) ∙ sym (judged_end _ _ _ _ _ end) ∙ c.loop-i.invariant.0
+    sym (cond-true _ _ _ (sym c.if-goal_holds.ensures)) ∙ sym (judged_end _ _ _ _ _ end) ∙ c.loop-i.invariant.0
 
-pub returns-else-goal-holds : goal.returns-else-goal-holds
-returns-else-goal-holds c =
+pub returns-else-goal_holds : goal.returns-else-goal_holds
+returns-else-goal_holds c =
     let end : c.loop-i.i ≡ length c.args.list.now = omega arith in
-    sym (cond-false _ _ _ (sym c.if-goal-holds.ensures)) ∙ sym (judged_end _ _ _ _ _ end) ∙ c.loop-i.invariant.0
+    sym (cond-false _ _ _ (sym c.if-goal_holds.ensures)) ∙ sym (judged_end _ _ _ _ _ end) ∙ c.loop-i.invariant.0

@@ -5,11 +5,11 @@ use Rattle.task.specs.States.{need_holds}
 use Rattle.task.proofs.Along.{kept_rules, need_fact, need_condition}
 use Rattle.task.proofs.accepted.Task.need_holds.Goals as goal
 
-pub overflow-shr-result : goal.overflow-shr-result
-overflow-shr-result c = need_fact _ _ (kept_rules c.args.self.now) c.requires c.if-need-eq2.true
+pub overflow_shr-result : goal.overflow_shr-result
+overflow_shr-result c = need_fact _ _ (kept_rules c.args.self.now) c.requires c.if-need-eq2.true
 
-pub condition-holds-requires : goal.condition-holds-requires
-condition-holds-requires c = need_condition _ _ c.requires c.if-need-eq2.false
+pub condition_holds-requires : goal.condition_holds-requires
+condition_holds-requires c = need_condition _ _ c.requires c.if-need-eq2.false
 
 pub returns-then-need-eq2 : goal.returns-then-need-eq2
 unfolding need_holds

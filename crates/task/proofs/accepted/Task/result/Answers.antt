@@ -18,14 +18,14 @@ pub returns-then-number-eq0 : goal.returns-then-number-eq0
 returns-then-number-eq0 c =
     full c.args.self.now _ _ _ (sym (result_no_move _ _ _ (elim c.then-number-eq0.branch [ then-number-eq0-via-then-number-eq0 w ↦ inl w.if-number-eq0.true | then-number-eq0-via-else-number-eq0+then-number-self w ↦ inr w.if-number-self.true ])))
 
-pub needs-hold-requires : goal.needs-hold-requires
-needs-hold-requires c = (move_keeps _ _ (kept_rules c.args.self.now) (omega arith) c.if-number-self.false).needs
+pub needs_hold-requires : goal.needs_hold-requires
+needs_hold-requires c = (move_keeps _ _ (kept_rules c.args.self.now) (omega arith) c.if-number-self.false).needs
 
 pub effected-requires : goal.effected-requires
 effected-requires c = (move_keeps _ _ (kept_rules c.args.self.now) (omega arith) c.if-number-self.false).effects
 
-pub returns-then-not-needs-hold : goal.returns-then-not-needs-hold
-returns-then-not-needs-hold c = full c.args.self.now _ _ _ (sym (result_no_needs _ _ c.args.number (sym c.if-not-needs-hold.ensures)))
+pub returns-then-not-needs_hold : goal.returns-then-not-needs_hold
+returns-then-not-needs_hold c = full c.args.self.now _ _ _ (sym (result_no_needs _ _ c.args.number (sym c.if-not-needs_hold.ensures)))
 
 pub returns : goal.returns
-returns c = full c.args.self.now _ _ _ (c.effected.ensures ∙ sym (result_needs _ _ c.args.number (omega arith) c.if-number-self.false (sym c.if-not-needs-hold.ensures)))
+returns c = full c.args.self.now _ _ _ (c.effected.ensures ∙ sym (result_needs _ _ c.args.number (omega arith) c.if-number-self.false (sym c.if-not-needs_hold.ensures)))

@@ -9,13 +9,13 @@ use Rattle.task.proofs.accepted.Task.total.Goals as goal
 
 pub loop-link-init : goal.loop-link-init
 loop-link-init c =
-    let it = c.into-iter-link-iterator.ensures.into-iter-gives in
+    let it = c.into_iter-link-iterator.ensures.into_iter_gives in
     let links = ap (λ k. k.links.now) it ∙ c.new-link-items.ensures.0 in
     let s = summed_start (problem c.args.self.now) c.args.first c.args.state.now _ _ (kept_rules c.args.self.now) c.requires links (ap (λ k. k.at) it ∙ c.new-link-items.ensures.1) in
     (s.going.can, tt, s)
 
-pub overflow-sub-value : goal.overflow-sub-value
-overflow-sub-value c =
+pub overflow_sub-value : goal.overflow_sub-value
+overflow_sub-value c =
     let e = c.in-Some.ensures in
     let g = going_step _ Terms c.in-Some.link _ _ _ _ c.loop-link.invariant.2.going e.steps (e.goes.on tt) in
     (term_of _ _ (kept_rules c.args.self.now) g.fits).0
@@ -53,8 +53,8 @@ module _ (c : goal.After-from-in-loop-link) where
   term_is : to_z w64 (of_z w64 (to_z w64 (of_z w64 c.from.result) *ℤ to_z w64 (of_z w64 c.from-in-loop-link.result))) ≡ c.in-Some.link.amount *ℤ value
   term_is = widened_product c.in-Some.link.amount value _ _ fits_amount fits_value c.from.ensures c.from-in-loop-link.ensures (size_fits64 _ (let h = term_size in omega (arith, h)))
 
-pub overflow-add-sum : goal.overflow-add-sum
-overflow-add-sum c = subst (SFits w64) (sym (ap₂ ◌+ℤ◌ c.loop-link.sum-is (term_is c))) (sum_fits c)
+pub overflow_add-sum : goal.overflow_add-sum
+overflow_add-sum c = subst (SFits w64) (sym (ap₂ ◌+ℤ◌ c.loop-link.sum-is (term_is c))) (sum_fits c)
 
 pub loop-link-preserved : goal.loop-link-preserved
 loop-link-preserved c =
