@@ -1,9 +1,8 @@
 -- For callers: what `AtMost` and a tie say of entries that are ordered by their fields, each an unsigned number.
--- The order of a derived `Ord` is `on f (fields a b)`, of `Rattle.std.specs.Cmp.Derive`, where f lists the fields as nested pairs.
+-- The order of a derived `Ord` is `then_cmp P Q`, where P goes by the first field, and Q by the others.
 use Rattle.std.proofs.Common.{◌≡◌, ℕ, ◌<◌, ◌≤◌, true, ◌⊎◌, Ordering, Less, Equal, Greater, sym, refl, ap, inl, inr, true≢false, arith}
-use Rattle.std.specs.Cmp.Derive.{fields}
-use Rattle.std.specs.Cmp.{IsTotalOrder, nat_cmp_total, means, ranks, below_irrefl, below_chain}
-use Rattle.std.specs.Ordering.{is_gt, is_le, is_lt, ordering_then, nat_cmp}
+use Rattle.std.specs.Cmp.{IsTotalOrder, nat_cmp_total, means, ranks, below_irrefl, below_chain, then_total}
+use Rattle.std.specs.Ordering.{is_gt, is_le, is_lt, ordering_then, nat_cmp, then_cmp}
 use Rattle.order.specs.Ranks.{AtMost}
 
 pub unsigned_less : (x y : ℕ) → nat_cmp x y ≡ Less → x < y
@@ -30,9 +29,9 @@ then_equal Less s h = absurd (true≢false (ap is_lt h))
 then_equal Equal s h = (refl, h)
 then_equal Greater s h = absurd (true≢false (ap is_gt h))
 
-module _ {A B : Type 0} {P : A → A → Ordering} {Q : B → B → Ordering → Type 0} (a : IsTotalOrder P) (b : IsTotalOrder Q) where
-  pub fields_at_most : (x y : A × B) → AtMost (fields a b) x y → (P x.0 y.0 ≡ Less) ⊎ ((P x.0 y.0 ≡ Equal) × AtMost b x.1 y.1)
-  fields_at_most x y h = then_le (P x.0 y.0) (Q x.1 y.1) h
+module _ {X : Type 0} {P Q : X → X → Ordering} (a : IsTotalOrder P) (b : IsTotalOrder Q) where
+  pub fields_at_most : (x y : X) → AtMost (then_total a b) x y → (P x y ≡ Less) ⊎ ((P x y ≡ Equal) × AtMost b x y)
+  fields_at_most x y h = then_le (P x y) (Q x y) h
 
-  pub fields_tied : (x y : A × B) → (fields a b).cmp x y ≡ Equal → (P x.0 y.0 ≡ Equal) × (Q x.1 y.1 ≡ Equal)
-  fields_tied x y h = then_equal (P x.0 y.0) (Q x.1 y.1) h
+  pub fields_tied : (x y : X) → then_cmp P Q x y ≡ Equal → (P x y ≡ Equal) × (Q x y ≡ Equal)
+  fields_tied x y h = then_equal (P x y) (Q x y) h

@@ -37,7 +37,7 @@ module _ {X : Type 0} where
   split : (xs : List X) (i : ℕ) (d : X) → i < length xs → xs ≡ take i xs ++ get_or xs i d ∷ drop (suc i) xs
   split xs i d lt = sym (take-append-drop i xs) ∙ ap (λ l. take i xs ++ l) (drop-cons xs i d lt)
 
-module _ {X : Type 0} {R : X → X → Ordering → Type 0} where
+module _ {X : Type 0} {R : X → X → Ordering} where
   -- ---- a lawful heap
 
   pub lawful_empty : (h : Heap X) → h.len ≡ 0 → Lawful R h

@@ -91,7 +91,7 @@ module _ {X : Type 0} where
 
   -- ---- after `lower`
 
-  module _ {R : X → X → Ordering → Type 0} {h : Heap X} {x y : X} {k : Heap X} (l : Lowered R h x y k) where
+  module _ {R : X → X → Ordering} {h : Heap X} {x y : X} {k : Heap X} (l : Lowered R h x y k) where
     had : IsPermutation (l.was ∷ l.others) (held h)
     had = IsPermutation-sym (held h) (l.was ∷ l.others) l.before
 
@@ -135,7 +135,7 @@ module _ {X : Type 0} where
   pushed_full h x k (Ok u) p full le = absurd (omega (arith, p.len, p.same_room))
   pushed_full h x k (Err y) p full le = (ap Err p.0, p.2)
 
-  pub first_told : {R : X → X → Ordering → Type 0} (h : Heap X) (r : Option X) → MatchOption r (h.len ≡ 0) (First R h) → 0 < h.len → (x : X) × (r ≡ Some x) × First R h x
+  pub first_told : {R : X → X → Ordering} (h : Heap X) (r : Option X) → MatchOption r (h.len ≡ 0) (First R h) → 0 < h.len → (x : X) × (r ≡ Some x) × First R h x
   first_told h None z some = absurd (omega arith)
   first_told h (Some x) f some = (x, refl, f)
 
@@ -159,13 +159,13 @@ module _ {X : Type 0} where
   pop_each h k None p P all = tt
   pop_each h k (Some x) p P all = (popped_all p P all).0
 
-  pub lower_all : (R : X → X → Ordering → Type 0) (h : Heap X) (x y : X) (k : Heap X) (r : Bool) → MatchBool r (Lowered R h x y k) (Unmet R h x y × Same h k) → (P : X → Type 0) → P y → All P (held h) → All P (held k)
+  pub lower_all : (R : X → X → Ordering) (h : Heap X) (x y : X) (k : Heap X) (r : Bool) → MatchBool r (Lowered R h x y k) (Unmet R h x y × Same h k) → (P : X → Type 0) → P y → All P (held h) → All P (held k)
   lower_all R h x y k true p P new all = lowered_all p P new all
   lower_all R h x y k false p P new all = subst (All P) (sym (same_held h k p.1)) all
 
   -- ---- how many are held, and where
 
-  pub length_held : {R : X → X → Ordering → Type 0} (h : Heap X) → Lawful R h → length (held h) ≡ h.len
+  pub length_held : {R : X → X → Ordering} (h : Heap X) → Lawful R h → length (held h) ≡ h.len
   length_held h l = length-take-le h.len h.entries.now l.0
 
   pub has_held : (h : Heap X) (i : ℕ) (d : X) → h.len ≤ room h → i < h.len → Has (held h) (get_or h.entries.now i d)
@@ -176,7 +176,7 @@ module _ {X : Type 0} where
   -- ---- what is told
 
   -- `first` and a `pop` that follows give the same entry
-  pub first_same : {R : X → X → Ordering → Type 0} {h : Heap X} {x y : X} → First R h x → First R h y → x ≡ y
+  pub first_same : {R : X → X → Ordering} {h : Heap X} {x y : X} → First R h x → First R h y → x ≡ y
   first_same {x = x} f g = f.front x ∙ sym (g.front x)
 
   pub first_at_most : {R : X → X → Ordering} {h : Heap X} {x : X} → First R h x → (o : IsTotalOrder R) (z : X) → Has (held h) z → AtMost o x z

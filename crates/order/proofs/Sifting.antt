@@ -85,7 +85,7 @@ module _ {X : Type 0} {R : X → X → Ordering} (o : IsTotalOrder R) where
           by _ _ _ _ (at p q d z ∙ s.0 d) (s.2 k d (omega arith) (omega arith)) (h.0 j k d e lt (omega arith)),
     )
 
-module _ {X : Type 0} (R : X → X → Ordering → Type 0) (xs : List X) (p l n : ℕ) (is : l ≡ p * 2 + 1) where
+module _ {X : Type 0} (R : X → X → Ordering) (xs : List X) (p l n : ℕ) (is : l ≡ p * 2 + 1) where
   -- the left child is the lower where it is the only one, or the right one is not below it
   pub lowest_only : n ≤ l + 1 → LowerChild R xs p l n
   lowest_only le o k d kin lt = let e : k ≡ l = omega arith in by o _ _ _ _ refl (ap (λ i. get_or xs i d) e) (at_most_refl o _)

@@ -1,4 +1,4 @@
--- What each call does to a heap h, which is then k. R is `T-as-Ord.orders`, and o any total order that R allows.
+-- What each call does to a heap h, which is then k. R is `T.cmp`, and o any total order that R allows.
 --     held h            the entries held
 --     room h            how many entries the slice has place for
 --     Lawful R h        the entries stand within the slice, and none is below its parent
@@ -29,13 +29,13 @@ abbrev pub room : {X : Type 0} → Heap X → ℕ
 room h = length h.entries.now
 
 -- in `∥ ∥₁`, so that it can stand in a ghost field
-abbrev pub Lawful : {X : Type 0} → (X → X → Ordering → Type 0) → Heap X → Type 0
+abbrev pub Lawful : {X : Type 0} → (X → X → Ordering) → Heap X → Type 0
 Lawful R h = (h.len ≤ room h) × ∥ ((o : IsTotalOrder R) → Heaped o h.entries.now h.len) ∥₁
 
 abbrev pub Same : {X : Type 0} → Heap X → Heap X → Type 0
 Same h k = (k.len ≡ h.len) × (k.entries.now ≡ h.entries.now)
 
-pub record First {X : Type 0} (R : X → X → Ordering → Type 0) (h : Heap X) (x : X) : Type 0 where
+pub record First {X : Type 0} (R : X → X → Ordering) (h : Heap X) (x : X) : Type 0 where
   pub front : (d : X) → x ≡ slice_index_or h.entries.now 0 d
   pub has : Has (held h) x
   pub least : (o : IsTotalOrder R) → Least o x (held h)
@@ -55,13 +55,13 @@ pub record Popped {X : Type 0} (h : Heap X) (x : X) (k : Heap X) : Type 0 where
   pub entries : IsPermutation (held h) (x ∷ held k)
   pub past : drop k.len k.entries.now ≡ x ∷ drop h.len h.entries.now
 
-abbrev pub Lacks : {X : Type 0} → (X → X → Ordering → Type 0) → Heap X → X → Type 0
+abbrev pub Lacks : {X : Type 0} → (X → X → Ordering) → Heap X → X → Type 0
 Lacks R h x = (o : IsTotalOrder R) → All (λ z. is_eq (R z x) ≡ false) (held h)
 
-abbrev pub Found : {X : Type 0} → (X → X → Ordering → Type 0) → Heap X → X → ℕ → Type 0
+abbrev pub Found : {X : Type 0} → (X → X → Ordering) → Heap X → X → ℕ → Type 0
 Found {X} R h x i = (i < h.len) × ((o : IsTotalOrder R) (d : X) → R (slice_index_or h.entries.now i d) x ≡ Equal)
 
-pub record Lowered {X : Type 0} (R : X → X → Ordering → Type 0) (h : Heap X) (x y : X) (k : Heap X) : Type 0 where
+pub record Lowered {X : Type 0} (R : X → X → Ordering) (h : Heap X) (x y : X) (k : Heap X) : Type 0 where
   pub len : k.len ≡ h.len
   pub same_room : room k ≡ room h
   pub not_above : (o : IsTotalOrder R) → AtMost o y x
@@ -72,5 +72,5 @@ pub record Lowered {X : Type 0} (R : X → X → Ordering → Type 0) (h : Heap 
   pub after : IsPermutation (y ∷ others) (held k)
   pub past : drop k.len k.entries.now ≡ drop h.len h.entries.now
 
-abbrev pub Unmet : {X : Type 0} → (X → X → Ordering → Type 0) → Heap X → X → X → Type 0
+abbrev pub Unmet : {X : Type 0} → (X → X → Ordering) → Heap X → X → X → Type 0
 Unmet R h x y = ((o : IsTotalOrder R) → R y x ≡ Greater) ⊎ Lacks R h x

@@ -1,4 +1,4 @@
--- What the entries' own order says. R is `T-as-Ord.orders`, and o any total order that R allows.
+-- What the entries' own order says. R is `T.cmp`, and o any total order that R allows.
 --     AtMost o x y      x is below y or tied with it
 --     Least o x xs      x is at most each of xs
 --     Tells R x y r     r says whether x is below y
@@ -16,8 +16,8 @@ module _ {X : Type 0} {R : X → X → Ordering} (o : IsTotalOrder R) where
   abbrev pub Least : X → List X → Type 0
   Least x xs = All (AtMost x) xs
 
-abbrev pub Tells : {X : Type 0} → (X → X → Ordering → Type 0) → X → X → Bool → Type 0
+abbrev pub Tells : {X : Type 0} → (X → X → Ordering) → X → X → Bool → Type 0
 Tells R x y r = (o : IsTotalOrder R) → is_lt (R x y) ≡ r
 
-abbrev pub Ties : {X : Type 0} → (X → X → Ordering → Type 0) → X → X → Bool → Type 0
+abbrev pub Ties : {X : Type 0} → (X → X → Ordering) → X → X → Bool → Type 0
 Ties R x y r = (o : IsTotalOrder R) → is_eq (R x y) ≡ r

@@ -1,5 +1,5 @@
 -- The shape of a heap: the first n of xs, where the children of p stand at 2p + 1 and 2p + 2.
--- R is `T-as-Ord.orders`, and o any total order that R allows.
+-- R is `T.cmp`, and o any total order that R allows.
 --     Child p k              k is a child of p
 --     Heaped o xs n          no entry is below its parent
 --     Skips o xs j n         no child of j is below the parent of j
@@ -31,17 +31,17 @@ module _ {X : Type 0} {R : X → X → Ordering} (o : IsTotalOrder R) where
   unfoldable pub Sinking : List X → ℕ → ℕ → Type 0
   Sinking xs j n = ((p k : ℕ) (d : X) → Child p k → k < n → (p ≢ j) → AtMost o (slice_index_or xs p d) (slice_index_or xs k d)) × Skips xs j n
 
-abbrev pub LowerChild : {X : Type 0} → (X → X → Ordering → Type 0) → List X → ℕ → ℕ → ℕ → Type 0
+abbrev pub LowerChild : {X : Type 0} → (X → X → Ordering) → List X → ℕ → ℕ → ℕ → Type 0
 LowerChild {X} R xs p c n = (o : IsTotalOrder R) (k : ℕ) (d : X) → Child p k → k < n → AtMost o (slice_index_or xs c d) (slice_index_or xs k d)
 
 pub record Stirred {X : Type 0} (xs : List X) (n : ℕ) (ys : List X) : Type 0 where
   pub held : IsPermutation (take n xs) (take n ys)
   pub rest : drop n ys ≡ drop n xs
 
-pub record Raised {X : Type 0} (R : X → X → Ordering → Type 0) (xs : List X) (j : ℕ) (ys : List X) : Type 0 where
+pub record Raised {X : Type 0} (R : X → X → Ordering) (xs : List X) (j : ℕ) (ys : List X) : Type 0 where
   pub stirred : (n : ℕ) → j < n → Stirred xs n ys
   pub heaped : (o : IsTotalOrder R) (n : ℕ) → j < n → Rising o xs j n → Heaped o ys n
 
-pub record Sunk {X : Type 0} (R : X → X → Ordering → Type 0) (xs : List X) (n : ℕ) (ys : List X) : Type 0 where
+pub record Sunk {X : Type 0} (R : X → X → Ordering) (xs : List X) (n : ℕ) (ys : List X) : Type 0 where
   pub stirred : Stirred xs n ys
   pub heaped : (o : IsTotalOrder R) → Sinking o xs 0 n → Heaped o ys n

@@ -21,7 +21,7 @@ impl<'a, T: Ord + Copy> Heap<'a, T> {
     pub fn new(entries: &'a mut [T]) -> Heap<'a, T>
         ensures empty { result.len ≡ 0 }
         ensures lent { result.entries.now ≡ entries.old }
-        ensures lawful { Lawful (λ x' y' r'. r' ≡ T.Ord.cmp x' y') result }
+        ensures lawful { Lawful T.cmp result }
         ensures lender { result.entries.ghost_name ≡ entries.entry.ghost_name }
     {
         Heap { entries, len: 0 }

@@ -13,8 +13,8 @@ impl<'a, T: Ord + Copy> Heap<'a, T> {
 
     // The lowest entry.
     pub fn first(&self) -> Option<T>
-        requires { Lawful (λ x' y' r'. r' ≡ T.Ord.cmp x' y') self.now }
-        ensures { MatchOption result (self.now.len ≡ 0) (First (λ x' y' r'. r' ≡ T.Ord.cmp x' y') self.now) }
+        requires { Lawful T.cmp self.now }
+        ensures { MatchOption result (self.now.len ≡ 0) (First T.cmp self.now) }
     {
         if self.len == 0 {
             return None;

@@ -4,13 +4,13 @@ ghost use Rattle.order.specs.Ranks.{Tells, Ties};
 ghost use Rattle.order.specs.Shape.{Child, LowerChild, Raised, Sunk};
 
 pub(super) fn is_below<T: Ord + Copy>(a: T, b: T) -> bool
-    ensures { Tells (λ x' y' r'. r' ≡ T.Ord.cmp x' y') a b result }
+    ensures { Tells T.cmp a b result }
 {
     a.cmp(&b).is_lt()
 }
 
 pub(super) fn is_tied<T: Ord + Copy>(a: T, b: T) -> bool
-    ensures { Ties (λ x' y' r'. r' ≡ T.Ord.cmp x' y') a b result }
+    ensures { Ties T.cmp a b result }
 {
     a.cmp(&b).is_eq()
 }
@@ -19,7 +19,7 @@ pub(super) fn is_tied<T: Ord + Copy>(a: T, b: T) -> bool
 pub(super) fn sift_up<T: Ord + Copy>(entries: &mut [T], from: usize)
     requires { from < length entries.old }
     ensures len { length entries.new ≡ length entries.old }
-    ensures raised { Raised (λ x' y' r'. r' ≡ T.Ord.cmp x' y') entries.old from entries.new }
+    ensures raised { Raised T.cmp entries.old from entries.new }
 {
     let mut at = from;
     while 0 < at {
@@ -36,7 +36,7 @@ pub(super) fn sift_up<T: Ord + Copy>(entries: &mut [T], from: usize)
 fn lower_child<T: Ord + Copy>(entries: &[T], at: usize, len: usize) -> usize
     requires { (at * 2 + 1 < len) × (len ≤ length entries.now) }
     ensures child { Child at result × (result < len) }
-    ensures lowest { LowerChild (λ x' y' r'. r' ≡ T.Ord.cmp x' y') entries.now at result len }
+    ensures lowest { LowerChild T.cmp entries.now at result len }
 {
     let left = at * 2 + 1;
     let right = left + 1;
@@ -51,7 +51,7 @@ fn lower_child<T: Ord + Copy>(entries: &[T], at: usize, len: usize) -> usize
 pub(super) fn sift_down<T: Ord + Copy>(entries: &mut [T], len: usize)
     requires { len ≤ length entries.old }
     ensures len { length entries.new ≡ length entries.old }
-    ensures sunk { Sunk (λ x' y' r'. r' ≡ T.Ord.cmp x' y') entries.old len entries.new }
+    ensures sunk { Sunk T.cmp entries.old len entries.new }
 {
     let mut at = 0;
     while at < len / 2 {

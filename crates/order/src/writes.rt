@@ -8,9 +8,9 @@ use super::sift::{is_below, is_tied, sift_down, sift_up};
 impl<'a, T: Ord + Copy> Heap<'a, T> {
     // Adds an entry, or gives it back where there is no room.
     pub fn push(&mut self, x: T) -> Result<(), T>
-        requires { Lawful (λ x' y' r'. r' ≡ T.Ord.cmp x' y') self.old }
+        requires { Lawful T.cmp self.old }
         ensures lender { self.new.entries.ghost_name ≡ self.old.entries.ghost_name }
-        ensures lawful { Lawful (λ x' y' r'. r' ≡ T.Ord.cmp x' y') self.new }
+        ensures lawful { Lawful T.cmp self.new }
         ensures pushed { MatchResult result (λ _. Pushed self.old x self.new) (λ y. Refused self.old x y self.new) }
     {
         let at = self.len;
@@ -25,10 +25,10 @@ impl<'a, T: Ord + Copy> Heap<'a, T> {
 
     // Takes out the lowest entry.
     pub fn pop(&mut self) -> Option<T>
-        requires { Lawful (λ x' y' r'. r' ≡ T.Ord.cmp x' y') self.old }
+        requires { Lawful T.cmp self.old }
         ensures lender { self.new.entries.ghost_name ≡ self.old.entries.ghost_name }
-        ensures lawful { Lawful (λ x' y' r'. r' ≡ T.Ord.cmp x' y') self.new }
-        ensures first { MatchOption result (self.old.len ≡ 0) (First (λ x' y' r'. r' ≡ T.Ord.cmp x' y') self.old) }
+        ensures lawful { Lawful T.cmp self.new }
+        ensures first { MatchOption result (self.old.len ≡ 0) (First T.cmp self.old) }
         ensures popped { MatchOption result (Same self.old self.new) (λ x. Popped self.old x self.new) }
     {
         let first = self.first()?;
@@ -41,10 +41,10 @@ impl<'a, T: Ord + Copy> Heap<'a, T> {
 
     // Puts `new`, which is not above `old`, in the place of an entry tied with `old`.
     pub fn lower(&mut self, old: T, new: T) -> bool
-        requires { Lawful (λ x' y' r'. r' ≡ T.Ord.cmp x' y') self.old }
+        requires { Lawful T.cmp self.old }
         ensures lender { self.new.entries.ghost_name ≡ self.old.entries.ghost_name }
-        ensures lawful { Lawful (λ x' y' r'. r' ≡ T.Ord.cmp x' y') self.new }
-        ensures lowered { MatchBool result (Lowered (λ x' y' r'. r' ≡ T.Ord.cmp x' y') self.old old new self.new) (Unmet (λ x' y' r'. r' ≡ T.Ord.cmp x' y') self.old old new × Same self.old self.new) }
+        ensures lawful { Lawful T.cmp self.new }
+        ensures lowered { MatchBool result (Lowered T.cmp self.old old new self.new) (Unmet T.cmp self.old old new × Same self.old self.new) }
     {
         if is_below(old, new) {
             return false;
@@ -59,8 +59,8 @@ impl<'a, T: Ord + Copy> Heap<'a, T> {
 
     // The place of an entry tied with `x`.
     fn place(&self, x: T) -> Option<usize>
-        requires { Lawful (λ x' y' r'. r' ≡ T.Ord.cmp x' y') self.now }
-        ensures { MatchOption result (Lacks (λ x' y' r'. r' ≡ T.Ord.cmp x' y') self.now x) (Found (λ x' y' r'. r' ≡ T.Ord.cmp x' y') self.now x) }
+        requires { Lawful T.cmp self.now }
+        ensures { MatchOption result (Lacks T.cmp self.now x) (Found T.cmp self.now x) }
     {
         let entries = &*self.entries;
         for i in 0..self.len {

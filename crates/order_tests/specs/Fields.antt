@@ -3,18 +3,19 @@
 --     Before x y          x stands before y, or is y
 --     Sooner x y          the same of entries with three fields
 use Rattle.std.specs.Prelude.{◌≡◌, ◌<◌, ◌≤◌, ◌⊎◌}
-use Rattle.std.specs.Cmp.Derive.{on, fields}
-use Rattle.std.specs.Cmp.{IsTotalOrder, nat_cmp_total}
+use Rattle.std.specs.Cmp.{IsTotalOrder, nat_cmp_total, on_total, then_total}
 use Rattle.order_tests.specs.declared.ByTwo.{ByTwo}
 use Rattle.order_tests.specs.declared.ByThree.{ByThree}
 use Rattle.order_tests.specs.contracts.ByTwoOrd.TheImpl as two
 use Rattle.order_tests.specs.contracts.ByThreeOrd.TheImpl as three
 
 abbrev pub by_two : IsTotalOrder (two.ghosts).cmp
-by_two = on (λ (x : ByTwo). (x.value, x.number)) (fields nat_cmp_total nat_cmp_total)
+by_two = then_total (on_total (λ (x : ByTwo). x.value) nat_cmp_total) (on_total (λ (x : ByTwo). x.number) nat_cmp_total)
 
 abbrev pub by_three : IsTotalOrder (three.ghosts).cmp
-by_three = on (λ (x : ByThree). (x.f, (x.h, x.row))) (fields nat_cmp_total (fields nat_cmp_total nat_cmp_total))
+by_three =
+    then_total (on_total (λ (x : ByThree). x.f) nat_cmp_total)
+    (then_total (on_total (λ (x : ByThree). x.h) nat_cmp_total) (on_total (λ (x : ByThree). x.row) nat_cmp_total))
 
 abbrev pub Before : ByTwo → ByTwo → Type 0
 Before x y = (x.value < y.value) ⊎ ((x.value ≡ y.value) × (x.number ≤ y.number))

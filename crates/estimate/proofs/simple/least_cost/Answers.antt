@@ -13,7 +13,7 @@ loop-action-preserved c =
     let i = c.loop-action.action-index in
     let ms = c.args.moves.now in
     let f : SFits w32 (get_or ms i none).cost = search rules in
-    let here : c.min-least.result ≡ lower c.loop-action.least (get_or ms i none) = c.min-least.ensures ∙ ap (λ n. min c.loop-action.least n) (c.unsigned-abs.ensures.value ∙ ap nat_abs (to_z-of_z w32 _ f)) in
+    let here : c.min-least.result ≡ lower c.loop-action.least (get_or ms i none) = c.min-least.ensures ∙ ap (λ n. min c.loop-action.least n) (c.unsigned_abs.ensures.value ∙ ap nat_abs (to_z-of_z w32 _ f)) in
     ap (λ n. fold lower n (drop (i + 1) ms)) here ∙ sym (at_drop_more (fold lower c.loop-action.least) ms i none c.loop-action-test.true) ∙ c.loop-action.invariant
 
 pub returns : goal.returns

@@ -12,12 +12,12 @@ returns g c =
     let at = c.in-Some.found in
     let old = c.args.old in
     let new = c.args.new in
-    let zs = c.sift-up.new.entries in
-    let up = c.sift-up.ensures.raised in
+    let zs = c.sift_up.new.entries in
+    let up = c.sift_up.ensures.raised in
     let le = c.requires.0 in
     let found = c.in-Some.ensures in
-    let long : length zs ≡ length xs = c.sift-up.ensures.len ∙ simp length-set in
-    let under : (o : IsTotalOrder g.T.Ord.cmp) → AtMost o new old = λ o. at_most_not_below o new old (c.if-is-below.ensures o) in
+    let long : length zs ≡ length xs = c.sift_up.ensures.len ∙ simp length-set in
+    let under : (o : IsTotalOrder g.T.Ord.cmp) → AtMost o new old = λ o. at_most_not_below o new old (c.if-is_below.ensures o) in
     record {
       lender = refl;
       lawful = (
@@ -38,5 +38,5 @@ returns g c =
       };
     }
 
-pub returns-in-default : goal.returns-in-default
-returns-in-default g c = record { lender = refl; lawful = c.requires; lowered = (inr c.in-default.ensures, (refl, refl)) }
+pub returns-in_default : goal.returns-in_default
+returns-in_default g c = record { lender = refl; lawful = c.requires; lowered = (inr c.in_default.ensures, (refl, refl)) }

@@ -8,7 +8,7 @@ pub loop-i-preserved : goal.loop-i-preserved
 loop-i-preserved g c = λ o.
     let le = c.requires.0 in
     let P : g.row.T.Denot → Type 0 = λ z. is_eq (g.T.Ord.cmp z c.args.x) ≡ false in
-    All-more P c.args.self.now.entries.now c.loop-i.i c.index-entries-i.result (omega arith) (c.loop-i.invariant o) (subst P c.index-entries-i.is (c.if-is-tied.ensures o))
+    All-more P c.args.self.now.entries.now c.loop-i.i c.index-entries-i.result (omega arith) (c.loop-i.invariant o) (subst P c.index-entries-i.is (c.if-is_tied.ensures o))
 
 pub returns : goal.returns
 returns g c = λ o.

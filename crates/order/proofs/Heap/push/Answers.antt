@@ -7,11 +7,11 @@ returns g c =
     let xs = c.args.self.now.entries.now in
     let n = c.args.self.now.len in
     let x = c.args.x in
-    let zs = c.sift-up.new.entries in
-    let up = c.sift-up.ensures.raised in
+    let zs = c.sift_up.new.entries in
+    let up = c.sift_up.ensures.raised in
     let le = c.requires.0 in
     let lt : n < length xs = omega arith in
-    let long : length zs ≡ length xs = c.sift-up.ensures.len ∙ simp length-set in
+    let long : length zs ≡ length xs = c.sift_up.ensures.len ∙ simp length-set in
     record {
       lender = refl;
       lawful = (omega arith, ∣ (λ o. pushed_heaped xs (set xs n x) zs n x lt refl up o (lawful_heaped c.args.self.now c.requires o)) ∣₁);

@@ -5,23 +5,23 @@ use Rattle.order.proofs.Sifting.{sinking_again, sinking_rests, sinking_leaf}
 use Rattle.order.proofs.Stirring.{stirred_swap, stirred_trans}
 use Rattle.order.proofs.sift.sift_down.Goals as goal
 
-pub returns-then-not-is-below : goal.returns-then-not-is-below
-returns-then-not-is-below g c =
+pub returns-then-not-is_below : goal.returns-then-not-is_below
+returns-then-not-is_below g c =
     let l = c.loop-at in
-    let child = c.lower-child-child in
+    let child = c.lower_child-child in
     record {
       len = omega arith;
       sunk = record {
         stirred = l.invariant.1;
         heaped = λ o h. sinking_rests o l.entries l.at child.result c.args.len (child.ensures.lowest o)
-            (pair_read l.entries (λ x y. is_lt (g.T.Ord.cmp x y) ≡ false) child.result l.at _ _ (omega arith) (omega arith) c.index-entries-child.is c.index-entries-at.is (c.if-not-is-below.ensures o)) (l.invariant.2 o h);
+            (pair_read l.entries (λ x y. is_lt (g.T.Ord.cmp x y) ≡ false) child.result l.at _ _ (omega arith) (omega arith) c.index-entries-child.is c.index-entries-at.is (c.if-not-is_below.ensures o)) (l.invariant.2 o h);
       };
     }
 
 pub loop-at-preserved : goal.loop-at-preserved
 loop-at-preserved g c =
     let l = c.loop-at in
-    let child = c.lower-child-child in
+    let child = c.lower_child-child in
     let n = c.args.len in
     let xs = c.args.entries.now in
     let ys = l.entries in
@@ -30,7 +30,7 @@ loop-at-preserved g c =
       omega arith,
       stirred_trans xs ys zs n l.invariant.1 (stirred_swap ys zs l.at child.result n (omega arith) (omega arith) (omega arith) (omega arith) swaps),
       λ o h. sinking_again o ys zs l.at child.result n child.ensures.child.0 child.ensures.child.1 swaps
-          (pair_read ys (λ x y. is_lt (g.T.Ord.cmp x y) ≡ true) child.result l.at _ _ (omega arith) (omega arith) c.index-entries-child.is c.index-entries-at.is (c.if-not-is-below.ensures o)) (child.ensures.lowest o) (l.invariant.2 o h),
+          (pair_read ys (λ x y. is_lt (g.T.Ord.cmp x y) ≡ true) child.result l.at _ _ (omega arith) (omega arith) c.index-entries-child.is c.index-entries-at.is (c.if-not-is_below.ensures o)) (child.ensures.lowest o) (l.invariant.2 o h),
     )
 
 pub returns : goal.returns

@@ -6,8 +6,8 @@ use Rattle.order.proofs.Sifting.{rising_again, rising_rests, rising_top}
 use Rattle.order.proofs.Stirring.{stirred_swap, stirred_trans}
 use Rattle.order.proofs.sift.sift_up.Goals as goal
 
-pub returns-then-not-is-below : goal.returns-then-not-is-below
-returns-then-not-is-below g c =
+pub returns-then-not-is_below : goal.returns-then-not-is_below
+returns-then-not-is_below g c =
     let l = c.loop-at in
     let ys = l.entries in
     let up = (l.at - 1) / 2 in
@@ -19,7 +19,7 @@ returns-then-not-is-below g c =
       raised = record {
         stirred = l.invariant.2;
         heaped = λ o n lt h. rising_rests o ys up l.at n kin
-            (pair_read ys (λ x y. is_lt (g.T.Ord.cmp x y) ≡ false) l.at up _ _ within (omega arith) c.index-entries-at.is c.index-entries-parent.is (c.if-not-is-below.ensures o)) (l.invariant.3 o n lt h);
+            (pair_read ys (λ x y. is_lt (g.T.Ord.cmp x y) ≡ false) l.at up _ _ within (omega arith) c.index-entries-at.is c.index-entries-parent.is (c.if-not-is_below.ensures o)) (l.invariant.3 o n lt h);
       };
     }
 
@@ -38,7 +38,7 @@ loop-at-preserved g c =
       omega arith,
       λ n lt. stirred_trans xs ys zs n (l.invariant.2 n lt) (stirred_swap ys zs up l.at n (omega arith) (omega arith) (omega arith) within swaps),
       λ o n lt h. rising_again o ys zs up l.at n kin (omega arith) swaps
-          (pair_read ys (λ x y. is_lt (g.T.Ord.cmp x y) ≡ true) l.at up _ _ within (omega arith) c.index-entries-at.is c.index-entries-parent.is (c.if-not-is-below.ensures o)) (l.invariant.3 o n lt h),
+          (pair_read ys (λ x y. is_lt (g.T.Ord.cmp x y) ≡ true) l.at up _ _ within (omega arith) c.index-entries-at.is c.index-entries-parent.is (c.if-not-is_below.ensures o)) (l.invariant.3 o n lt h),
     )
 
 pub returns : goal.returns
