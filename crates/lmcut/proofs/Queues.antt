@@ -5,8 +5,8 @@ use Rattle.std.proofs.ByRecursion.{all-has, all_has_itself, All-weaker, All-map}
 use Rattle.std.proofs.lemmas.List.{get_or-set_same, get_or-set_other, length-map}
 use Rattle.std.proofs.lemmas.List.Sums.{sum_by-cons, get_or-le-sum_by}
 use Rattle.std.proofs.lemmas.Bool.{cases_eq, eq-eqb, ne_eqb, cond-true, cond-false, true≢false}
-use Rattle.std.specs.Cmp.{nat_cmp_total}
-use Rattle.std.specs.Ordering.{is_eq, is_lt, is_gt, ordering_reverse, ordering_then, nat_cmp}
+use Rattle.std.specs.Cmp.{IsTotalOrder, nat_cmp_total, on_total, tied_itself as tied_with_itself}
+use Rattle.std.specs.Ordering.{is_eq, is_lt, is_gt, ordering_reverse, ordering_then, nat_cmp, on}
 use Rattle.std.specs.List.{ContainsAt as Has, AllByRecursion as All}
 use Rattle.order.specs.declared.Heap.{Heap}
 use Rattle.order.specs.Laws.{held, room, First, Lawful, Lowered, Popped, Pushed, Unmet}
@@ -24,33 +24,34 @@ use Rattle.landmarks.proofs.Sweeps.{pigeonhole}
 
 -- ---- the order of nodes
 
+by_value : IsTotalOrder (on (λ (x : Node). x.value) nat_cmp)
+by_value = on_total (λ (x : Node). x.value) nat_cmp_total
+
+by_number : IsTotalOrder (on (λ (x : Node). x.number) nat_cmp)
+by_number = on_total (λ (x : Node). x.number) nat_cmp_total
+
 pub lower_value : (x y : Node) → AtMost by_node x y → x.value ≤ y.value
 lower_value x y h = ⊎_elim
     (λ l. let k = unsigned_less x.value y.value l in omega arith)
     (λ e. let k = unsigned_tied x.value y.value e.0 in omega arith)
-    (fields_at_most nat_cmp_total nat_cmp_total (x.value, x.number) (y.value, y.number) h)
+    (fields_at_most by_value by_number x y h)
 
-same_node : (x y : Node) → by_node.cmp x y ≡ Equal → x ≡ y
+same_node : (x y : Node) → orders x y ≡ Equal → x ≡ y
 same_node x y e =
-    let t = fields_tied nat_cmp_total nat_cmp_total (x.value, x.number) (y.value, y.number) e in
+    let t = fields_tied by_value by_number x y e in
     let p = unsigned_tied x.value y.value t.0 in
     let q = unsigned_tied x.number y.number t.1 in
     (λ i. record { value = p i; number = q i })
 
-own_turn : (r : Ordering) → r ≡ ordering_reverse r → r ≡ Equal
-own_turn Less e = absurd (true≢false (ap is_lt e))
-own_turn Equal e = refl
-own_turn Greater e = absurd (true≢false (ap is_gt e))
-
-tied_itself : (x : Node) → by_node.cmp x x ≡ Equal
-tied_itself x = own_turn (by_node.cmp x x) (by_node.flip x x)
+tied_itself : (x : Node) → orders x x ≡ Equal
+tied_itself x = tied_with_itself by_node x
 
 then_greater : (r s : Ordering) → ordering_then r s ≡ Greater → (r ≡ Greater) ⊎ (r ≡ Equal)
 then_greater Less s e = absurd (true≢false (ap is_lt e))
 then_greater Equal s e = inr refl
 then_greater Greater s e = inl refl
 
-not_above : (x y : Node) → x.value < y.value → by_node.cmp x y ≡ Greater → ⊥
+not_above : (x y : Node) → x.value < y.value → orders x y ≡ Greater → ⊥
 not_above x y l e = ⊎_elim
     (λ g. let k = unsigned_less y.value x.value (nat_cmp_total.antisymm y.value x.value ∙ ap ordering_reverse g) in omega arith)
     (λ t. let k = unsigned_tied x.value y.value t in omega arith)
@@ -215,7 +216,7 @@ module _ (xs : List ℕ) (w nodes : ℕ) (h : Heap Node) (qd : Queued xs w nodes
         queued_met (inl f) = not_above (entry y n) (entry (get_or xs n 0) n) less (f by_node)
         queued_met (inr f) =
             let i = qd.each n (record { inside = inner; waits = opens; finite = fin }) in
-            let e = all-has (λ z. is_eq (by_node.cmp z (entry (get_or xs n 0) n)) ≡ false) (held h) (entry (get_or xs n 0) n) (f by_node) i in
+            let e = all-has (λ z. is_eq (orders z (entry (get_or xs n 0) n)) ≡ false) (held h) (entry (get_or xs n 0) n) (f by_node) i in
             true≢false (sym (ap is_eq (tied_itself (entry (get_or xs n 0) n))) ∙ e)
 
         pub queued_lower : (k : Heap Node) → Lawful orders k → Lowered orders h (entry (get_or xs n 0) n) (entry y n) k → Queued (set xs n y) w nodes k

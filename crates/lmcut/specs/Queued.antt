@@ -10,21 +10,20 @@
 --   Blank          all values are infinite
 use Rattle.std.specs.Prelude.{◌≡◌, ℕ, ◌+◌, ◌<◌, ◌≤◌, true, cond, List, sum_by, ◌==◌, ◌≢◌, nat_lt, slice_index, slice_index_or, slice_set}
 use Rattle.std.specs.declared.cmp.Ordering.{Ordering}
-use Rattle.std.specs.Cmp.Derive.{on, fields}
-use Rattle.std.specs.Cmp.{IsTotalOrder, nat_cmp_total}
+use Rattle.std.specs.Cmp.{IsTotalOrder, nat_cmp_total, on_total, then_total}
 use Rattle.std.specs.List.{ContainsAt as Has}
 use Rattle.order.specs.declared.Heap.{Heap}
 use Rattle.order.specs.Laws.{held, room, Lawful, Pushed, Lowered, Unmet}
 use Rattle.task.specs.States.{fact_holds}
 use Rattle.lmcut.specs.Valued.{infinite}
 use Rattle.lmcut.specs.declared.values.Node.{Node}
-use Rattle.lmcut.specs.contracts.values.NodeOrd.TheImpl as node-order
+use Rattle.lmcut.specs.contracts.values.NodeOrd.TheImpl as node_order
 
-abbrev pub orders : Node → Node → Ordering → Type 0
-orders = (node-order.ghosts).cmp
+abbrev pub orders : Node → Node → Ordering
+orders = (node_order.ghosts).cmp
 
 abbrev pub by_node : IsTotalOrder orders
-by_node = on (λ (x : Node). (x.value, x.number)) (fields nat_cmp_total nat_cmp_total)
+by_node = then_total (on_total (λ (x : Node). x.value) nat_cmp_total) (on_total (λ (x : Node). x.number) nat_cmp_total)
 
 abbrev pub entry : ℕ → ℕ → Node
 entry v n = record { value = v; number = n }

@@ -1,5 +1,5 @@
 -- What a queue keeps of its entries, and what each call does to its heap h, which is then k.
---     orders, orders-three     the orders that `ByTwo` and `ByThree` derive
+--     orders, orders_three     the orders that `ByTwo` and `ByThree` derive
 --     Small x           the number of x is below a hundred
 --     Added h x k       x is small, and it is added
 --     Declined h x k    x is not small or there is no room, and nothing is altered
@@ -13,10 +13,10 @@ use Rattle.order_tests.specs.declared.ByThree.{ByThree}
 use Rattle.order_tests.specs.contracts.ByTwoOrd.TheImpl as two
 use Rattle.order_tests.specs.contracts.ByThreeOrd.TheImpl as three
 
-abbrev pub orders : ByTwo → ByTwo → Ordering → Type 0
+abbrev pub orders : ByTwo → ByTwo → Ordering
 orders = (two.ghosts).cmp
 
-abbrev pub orders_three : ByThree → ByThree → Ordering → Type 0
+abbrev pub orders_three : ByThree → ByThree → Ordering
 orders_three = (three.ghosts).cmp
 
 abbrev pub Small : ByTwo → Type 0

@@ -28,7 +28,7 @@ use Rattle.tables.specs.Problem.{Problem}
 use Rattle.tables.specs.declared.Quantity as quantity
 use Rattle.tables.specs.declared.Condition as condition
 use Rattle.tables.specs.declared.Move as «move»
-use Rattle.tables.specs.declared.Link as declared-link
+use Rattle.tables.specs.declared.Link as declared_link
 use Rattle.tables.specs.declared.Role.{Role}
 use Rattle.tables.specs.declared.Role.TheVariants as role
 use Rattle.tables.specs.declared.fault.LinkFault.{LinkFault}
@@ -85,7 +85,7 @@ abbrev pub among : List ℕ → ℕ → Bool
 among [] q = false
 among (x ∷ xs) q = x == q || among xs q
 
-abbrev pub also : declared-link.Link → List ℕ → List ℕ
+abbrev pub also : declared_link.Link → List ℕ → List ℕ
 also l named = cond (names_quantity l.kind) (l.subject ∷ named) named
 
 abbrev pub next_fits : ℕ → ℕ → Bool
@@ -93,7 +93,7 @@ next_fits n next = next == 0 || nat_lt n next
 
 -- ---- chains
 
-abbrev pub link_fault : Problem → Role → Bool → ℕ → declared-link.Link → Option LinkFault
+abbrev pub link_fault : Problem → Role → Bool → ℕ → declared_link.Link → Option LinkFault
 link_fault p r before n l =
     unless (kind_fits r l.kind) Kind
     or unless (subject_fits p l.kind l.subject) Subject

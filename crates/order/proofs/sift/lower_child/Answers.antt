@@ -12,8 +12,8 @@ returns-else-right-len g c =
     record {
       child = ((omega arith, omega arith), omega arith);
       lowest = elim c.else-right-len.branch [
-        | else-right-len-via-then-right-len+else-is_below w ↦ lowest_left (λ x' y' r'. r' ≡ g.T.Ord.cmp x' y') xs c.args.at left c.args.len refl
-            (λ o. pair_read xs (λ x y. is_lt (o.cmp x y) ≡ false) (left + 1) left _ _ (omega arith) (omega arith) w.index-entries-right.is w.index-entries-left.is (w.if-is_below.ensures o))
-        | else-right-len-via-else-right-len w ↦ lowest_only (λ x' y' r'. r' ≡ g.T.Ord.cmp x' y') xs c.args.at left c.args.len refl w.if-right-len.false
+        | else-right-len-via-then-right-len+else-is_below w ↦ lowest_left g.T.Ord.cmp xs c.args.at left c.args.len refl
+            (λ o. pair_read xs (λ x y. is_lt (g.T.Ord.cmp x y) ≡ false) (left + 1) left _ _ (omega arith) (omega arith) w.index-entries-right.is w.index-entries-left.is (w.if-is_below.ensures o))
+        | else-right-len-via-else-right-len w ↦ lowest_only g.T.Ord.cmp xs c.args.at left c.args.len refl w.if-right-len.false
       ];
     }

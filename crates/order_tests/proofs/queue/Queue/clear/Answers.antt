@@ -5,8 +5,8 @@ use Rattle.order_tests.specs.Numbered.{Small}
 use Rattle.order_tests.proofs.Emptied.{emptying_more}
 use Rattle.order_tests.proofs.queue.Queue.clear.Goals as goal
 
-pub invariant-of-self : goal.invariant-of-self
-invariant-of-self c =
+pub invariant_of-self : goal.invariant_of-self
+invariant_of-self c =
     let was = c.loop.self in
     let left = pop_all was.heap c.pop.new.self c.pop.result c.pop.ensures.popped Small in
     (c.pop.ensures.lawful, (∥∥₁_map was.small left, tt))

@@ -2,5 +2,5 @@ use Rattle.order.proofs.Members.{empty_all}
 use Rattle.order_tests.specs.Numbered.{Small}
 use Rattle.order_tests.proofs.queue.Queue.new.Goals as goal
 
-pub invariant-of-result : goal.invariant-of-result
-invariant-of-result c = (c.new.ensures.lawful, (∣ empty_all c.new.result c.new.ensures.empty Small ∣₁, tt))
+pub invariant_of-result : goal.invariant_of-result
+invariant_of-result c = (c.new.ensures.lawful, (∣ empty_all c.new.result c.new.ensures.empty Small ∣₁, tt))

@@ -12,8 +12,8 @@ one_proof : (r : Option ByTwo) → IsProp (IfSome r Small)
 one_proof None = Unit-prop
 one_proof (Some x) = le_prop
 
-pub invariant-of-self : goal.invariant-of-self
-invariant-of-self c =
+pub invariant_of-self : goal.invariant_of-self
+invariant_of-self c =
     let h = c.args.self.now.heap in
     let left = pop_all h c.pop.new.self c.pop.result c.pop.ensures.popped Small in
     (c.pop.ensures.lawful, (∥∥₁_map c.args.self.now.small left, tt))
