@@ -1,5 +1,6 @@
 // The set bits of a word, lowest first.
 ghost use Rattle.std.specs.Prelude.{◌≡◌};
+ghost use Rattle.std.specs.Iterator.{at_most};
 ghost use Rattle.lmcut.specs.Bitwise.{BitStep};
 
 #[derive(Clone, Copy)]
@@ -22,9 +23,7 @@ impl Iterator for Bits {
 
     ghost next_gives = { λ s r t. BitStep s.word r t.word };
 
-    ghost ends = { λ _. Unit {0} };
-
-    ghost remaining = { λ s. s.word };
+    ghost remaining = { λ s. at_most s.word };
 
     fn next(&mut self) -> Option<usize> {
         if self.word == 0 {

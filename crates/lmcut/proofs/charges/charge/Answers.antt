@@ -10,39 +10,39 @@ loop-node-init c =
     let q = c.args.question.now in
     let all = into_all q (goal-side q c.args.near c.args.action) c.args.action in
     let none : max 0 (charge c.args.weight all) ≡ charge c.args.weight all = omega arith in
-    (entering_start _ _ _ c.requires.0 (Charging c.args.weight all 0) _ (ap (λ b. b.word) c.into-iter-node-iterator.ensures.into-iter-gives ∙ c.new-node-items.ensures) none, omega arith)
+    (entering_start _ _ _ c.requires.0 (Charging c.args.weight all 0) _ (ap (λ b. b.word) c.into_iter-node-iterator.ensures.into_iter_gives ∙ c.new-node-items.ensures) none, omega arith)
 
 pub inner-edge-requires : goal.inner-edge-requires
 inner-edge-requires c = (c.requires.0, (c.requires.1.0, (entering_some _ _ _ c.requires.0 _ _ _ _ c.loop-node.invariant.0 c.in-Some.ensures.steps).reached))
 
-pub overflow-mul-weight : goal.overflow-mul-weight
-overflow-mul-weight c =
+pub overflow_mul-weight : goal.overflow_mul-weight
+overflow_mul-weight c =
     let q = c.args.question.now in
     let b = entering_some _ _ _ c.requires.0 _ _ _ _ c.loop-node.invariant.0 c.in-Some.ensures.steps in
     let l = b.below in
-    let h = small_charge q c.args.left (goal-side q c.args.near c.args.action) c.args.weight c.args.action c.in-Some.node c.inner_edge.result c.requires.0 c.requires.1.0 (omega arith) c.requires.1.1.0 c.requires.1.1.1 c.inner_edge.ensures b.zoned in
+    let h = small_charge q c.args.left (goal-side q c.args.near c.args.action) c.args.weight c.args.action c.in-Some.node c.inner-edge.result c.requires.0 c.requires.1.0 (omega arith) c.requires.1.1.0 c.requires.1.1.1 c.inner-edge.ensures b.zoned in
     omega (arith, h.product)
 
-pub div-ceil-requires : goal.div-ceil-requires
-div-ceil-requires c =
+pub div_ceil-requires : goal.div_ceil-requires
+div_ceil-requires c =
     let l = (entering_some _ _ _ c.requires.0 _ _ _ _ c.loop-node.invariant.0 c.in-Some.ensures.steps).below in
-    let h = c.requires.0.edges_small c.args.action c.in-Some.node c.inner_edge.result c.requires.1.0 (omega arith) c.inner_edge.ensures in
+    let h = c.requires.0.edges_small c.args.action c.in-Some.node c.inner-edge.result c.requires.1.0 (omega arith) c.inner-edge.ensures in
     omega (arith, h.0)
 
 pub loop-node-preserved : goal.loop-node-preserved
 loop-node-preserved c =
     let q = c.args.question.now in
     let μ = c.args.weight in
-    let e = c.inner_edge.result in
+    let e = c.inner-edge.result in
     let s = c.in-Some.ensures.steps in
     let i = c.loop-node.invariant.0 in
     let b = entering_some _ _ _ c.requires.0 _ _ _ _ i s in
     let l = b.below in
-    let h = small_charge q c.args.left (goal-side q c.args.near c.args.action) μ c.args.action c.in-Some.node e c.requires.0 c.requires.1.0 (omega arith) c.requires.1.1.0 c.requires.1.1.1 c.inner_edge.ensures b.zoned in
-    let one = (c.requires.0.edges_small c.args.action c.in-Some.node e c.requires.1.0 (omega arith) c.inner_edge.ensures).0 in
-    let paid = c.div-ceil.ensures ∙ ceil_is (μ * e.gain) e.short one in
-    let most : c.max-most.result ≡ max c.loop-node.most (ceil_div (μ * e.gain) e.short) = (let m : c.max-most.result ≡ max c.loop-node.most c.div-ceil.result = search rules in m ∙ ap (max c.loop-node.most) paid) in
-    (entering_step q _ _ c.requires.0 _ _ _ _ _ e i s c.inner_edge.ensures (λ xs. charge_take μ _ c.loop-node.most _ (reach_of c.in-Some.node e) xs most), omega (arith, most, h.within, c.loop-node.invariant.1))
+    let h = small_charge q c.args.left (goal-side q c.args.near c.args.action) μ c.args.action c.in-Some.node e c.requires.0 c.requires.1.0 (omega arith) c.requires.1.1.0 c.requires.1.1.1 c.inner-edge.ensures b.zoned in
+    let one = (c.requires.0.edges_small c.args.action c.in-Some.node e c.requires.1.0 (omega arith) c.inner-edge.ensures).0 in
+    let paid = c.div_ceil.ensures ∙ ceil_is (μ * e.gain) e.short one in
+    let most : c.max-most.result ≡ max c.loop-node.most (ceil_div (μ * e.gain) e.short) = (let m : c.max-most.result ≡ max c.loop-node.most c.div_ceil.result = search rules in m ∙ ap (max c.loop-node.most) paid) in
+    (entering_step q _ _ c.requires.0 _ _ _ _ _ e i s c.inner-edge.ensures (λ xs. charge_take μ _ c.loop-node.most _ (reach_of c.in-Some.node e) xs most), omega (arith, most, h.within, c.loop-node.invariant.1))
 
 pub returns-then-action-question : goal.returns-then-action-question
 returns-then-action-question c =

@@ -3,8 +3,8 @@ use Rattle.lmcut.specs.Drawn.{zone_of, Light}
 use Rattle.lmcut.proofs.Paying.{light_cut, paying_start, paying_step, paying_end, paying_modest}
 use Rattle.lmcut.proofs.charges.charge_all.Goals as goal
 
-pub charge-of-requires : goal.charge-of-requires
-charge-of-requires c =
+pub charge_of-requires : goal.charge_of-requires
+charge_of-requires c =
     let q = c.args.question.now in
     let near = zone_of q true c.args.near in
     let start = zone_of q false c.args.start in

@@ -25,11 +25,11 @@ loop-action-preserved c =
       | then-starts w ↦
           let least : w.min-best.result ≡ min c.loop-action.best w.lightest.result = search rules in
           let small : w.lightest.result ≤ infinite = search rules in (
-            subst (Weighing q rs ss near start (i + 1)) (sym (ap read_value (w.best_is ∙ least) ∙ read_min c.loop-action.best w.lightest.result most small ∙ ap (smaller (read_value c.loop-action.best)) w.lightest.ensures))
+            subst (Weighing q rs ss near start (i + 1)) (sym (ap read_value (w.best-is ∙ least) ∙ read_min c.loop-action.best w.lightest.result most small ∙ ap (smaller (read_value c.loop-action.best)) w.lightest.ensures))
                 (weighing_starts q rs ss near start i _ inside c.loop-action.invariant.0 (sym told ∙ w.if-starts.true)),
-            omega (arith, w.best_is, least, most),
+            omega (arith, w.best-is, least, most),
           )
-      | else-starts w ↦ (subst (λ b. Weighing q rs ss near start (i + 1) (read_value b)) (sym w.best_is) (weighing_not q rs ss near start i _ inside c.loop-action.invariant.0 (sym told ∙ w.if-starts.false)), omega (arith, w.best_is, most))
+      | else-starts w ↦ (subst (λ b. Weighing q rs ss near start (i + 1) (read_value b)) (sym w.best-is) (weighing_not q rs ss near start i _ inside c.loop-action.invariant.0 (sym told ∙ w.if-starts.false)), omega (arith, w.best-is, most))
     ]
 
 pub returns-then-best : goal.returns-then-best

@@ -6,36 +6,36 @@ use Rattle.lmcut.proofs.Crossed.{goal-side, into_all, Lightening, entering_start
 use Rattle.lmcut.proofs.charges.lightest.Goals as goal
 
 pub loop-node-init : goal.loop-node-init
-loop-node-init c = (entering_start _ _ _ c.requires.0 _ _ (ap (λ b. b.word) c.into-iter-node-iterator.ensures.into-iter-gives ∙ c.new-node-items.ensures) refl, omega arith)
+loop-node-init c = (entering_start _ _ _ c.requires.0 _ _ (ap (λ b. b.word) c.into_iter-node-iterator.ensures.into_iter_gives ∙ c.new-node-items.ensures) refl, omega arith)
 
 pub inner-edge-requires : goal.inner-edge-requires
 inner-edge-requires c = (c.requires.0, (c.requires.1.0, (entering_some _ _ _ c.requires.0 _ _ _ _ c.loop-node.invariant.0 c.in-Some.ensures.steps).reached))
 
-pub overflow-mul-edge : goal.overflow-mul-edge
-overflow-mul-edge c =
+pub overflow_mul-edge : goal.overflow_mul-edge
+overflow_mul-edge c =
     let b = (entering_some _ _ _ c.requires.0 _ _ _ _ c.loop-node.invariant.0 c.in-Some.ensures.steps).below in
-    let h = small_weight c.args.question.now c.args.left c.args.action c.in-Some.node c.inner_edge.result c.requires.0 c.requires.1.0 (omega arith) c.requires.1.1 c.inner_edge.ensures in
+    let h = small_weight c.args.question.now c.args.left c.args.action c.in-Some.node c.inner-edge.result c.requires.0 c.requires.1.0 (omega arith) c.requires.1.1 c.inner-edge.ensures in
     omega arith
 
-pub nonzero-div-edge : goal.nonzero-div-edge
-nonzero-div-edge c =
+pub nonzero_div-edge : goal.nonzero_div-edge
+nonzero_div-edge c =
     let b = (entering_some _ _ _ c.requires.0 _ _ _ _ c.loop-node.invariant.0 c.in-Some.ensures.steps).below in
-    let h = c.requires.0.edges_small c.args.action c.in-Some.node c.inner_edge.result c.requires.1.0 (omega arith) c.inner_edge.ensures in
+    let h = c.requires.0.edges_small c.args.action c.in-Some.node c.inner-edge.result c.requires.1.0 (omega arith) c.inner-edge.ensures in
     omega (arith, h.2)
 
 pub loop-node-preserved : goal.loop-node-preserved
 loop-node-preserved c =
     let q = c.args.question.now in
     let r = c.args.left in
-    let e = c.inner_edge.result in
+    let e = c.inner-edge.result in
     let s = c.in-Some.ensures.steps in
     let i = c.loop-node.invariant.0 in
     let b = (entering_some _ _ _ c.requires.0 _ _ _ _ i s).below in
-    let h = small_weight q r c.args.action c.in-Some.node e c.requires.0 c.requires.1.0 (omega arith) c.requires.1.1 c.inner_edge.ensures in
+    let h = small_weight q r c.args.action c.in-Some.node e c.requires.0 c.requires.1.0 (omega arith) c.requires.1.1 c.inner-edge.ensures in
     let d = div-le_self (e.short * r) e.gain in
     let most = c.loop-node.invariant.1 in
     let least : c.min-best.result ≡ min c.loop-node.best (e.short * r / e.gain) = search rules in
-    (entering_step q _ _ c.requires.0 _ _ _ _ _ e i s c.inner_edge.ensures (λ xs. lightest_read r _ _ _ (reach_of c.in-Some.node e) xs most (omega arith) least), omega arith)
+    (entering_step q _ _ c.requires.0 _ _ _ _ _ e i s c.inner-edge.ensures (λ xs. lightest_read r _ _ _ (reach_of c.in-Some.node e) xs most (omega arith) least), omega arith)
 
 pub returns-then-action-question : goal.returns-then-action-question
 returns-then-action-question c =

@@ -3,7 +3,7 @@ use Rattle.lmcut.proofs.Picks.{Taking, taking_start, taking_inside, taking_below
 use Rattle.lmcut.proofs.choice.chosen.Goals as goal
 
 pub loop-node-init : goal.loop-node-init
-loop-node-init c = taking_start _ _ _ _ (ap (λ b. b.word) c.into-iter-node-iterator.ensures.into-iter-gives ∙ c.new-node-items.ensures)
+loop-node-init c = taking_start _ _ _ _ (ap (λ b. b.word) c.into_iter-node-iterator.ensures.into_iter_gives ∙ c.new-node-items.ensures)
 
 pub preferred-best-requires : goal.preferred-best-requires
 preferred-best-requires c =

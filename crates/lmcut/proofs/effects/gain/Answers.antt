@@ -10,13 +10,13 @@ use Rattle.lmcut.proofs.effects.gain.Goals as goal
 
 pub loop-link-init : goal.loop-link-init
 loop-link-init c =
-    let it = c.into-iter-link-iterator.ensures.into-iter-gives in
+    let it = c.into_iter-link-iterator.ensures.into_iter_gives in
     let links = ap (λ k. k.links.now) it ∙ c.new-link-items.ensures.0 ∙ ap (λ t. t.links.now) c.tables.ensures in
     let s = weighed_start (problem c.args.task.now) c.args.first c.args.changes.now _ _ (kept_rules c.args.task.now) c.requires.keeps links (ap (λ k. k.at) it ∙ c.new-link-items.ensures.1) in
     (s.going.can, tt, s)
 
-pub overflow-sub-sum : goal.overflow-sub-sum
-overflow-sub-sum c =
+pub overflow_sub-sum : goal.overflow_sub-sum
+overflow_sub-sum c =
     let e = c.in-Some.ensures in
     let g = going_step _ Terms c.in-Some.link _ _ _ _ c.loop-link.invariant.2.going e.steps (e.goes.on tt) in
     (term_of _ _ (kept_rules c.args.task.now) g.fits).0
@@ -36,8 +36,8 @@ product a v fa f k h e =
     let iv : to_z w64 (of_z w64 v) ≡ v = to_z-of_z w64 v (size_fits64 v (omega arith)) in
     (ap₂ ◌*ℤ◌ ia iv, product_size a v 10 819200000 k h)
 
-pub overflow-mul-sum : goal.overflow-mul-sum
-overflow-mul-sum c =
+pub overflow_mul-sum : goal.overflow_mul-sum
+overflow_mul-sum c =
     let e = c.in-Some.ensures in
     let g = going_step _ Terms c.in-Some.link _ _ _ _ c.loop-link.invariant.2.going e.steps (e.goes.on tt) in
     let f : SFits w32 c.in-Some.link.amount = search rules in
@@ -45,8 +45,8 @@ overflow-mul-sum c =
     let p = product c.in-Some.link.amount v c.from.result f (term_of _ _ (kept_rules c.args.task.now) g.fits).2 (c.requires.small (c.in-Some.link.subject - 1)) c.from.ensures in
     subst (SFits w64) (sym p.0) (size_fits64 (c.in-Some.link.amount *ℤ v) (let h = p.1 in omega arith))
 
-pub overflow-add-sum : goal.overflow-add-sum
-overflow-add-sum c =
+pub overflow_add-sum : goal.overflow_add-sum
+overflow_add-sum c =
     let e = c.in-Some.ensures in
     let l = c.in-Some.link in
     let cs = c.args.changes.now in

@@ -8,13 +8,13 @@ pub returns : goal.returns
 returns c =
     let q = c.args.question.now in
     let rs = c.args.left.now in
-    let near = zone_of q true c.goal-zone-near.result in
-    let start = zone_of q false c.start-zone-start.result in
-    let same = cut_is q c.args.values.now rs c.sources-sources.result near start c.sources-sources.ensures.chosen c.goal-zone-near.ensures (c.start-zone-start.ensures rs) in
-    let charged = c.charge-all.ensures.left ∙ ap (left_after c.cut-weight-weight.result) same in
+    let near = zone_of q true c.goal_zone-near.result in
+    let start = zone_of q false c.start_zone-start.result in
+    let same = cut_is q c.args.values.now rs c.sources-sources.result near start c.sources-sources.ensures.chosen c.goal_zone-near.ensures (c.start_zone-start.ensures rs) in
+    let charged = c.charge_all.ensures.left ∙ ap (left_after c.cut_weight-weight.result) same in
     record {
-      weighs = c.cut-weight-weight.ensures ∙ ap cut_weight same;
+      weighs = c.cut_weight-weight.ensures ∙ ap cut_weight same;
       charged = charged;
-      loads = loaded_front q c.charge-all.new.left _ charged;
-      modest = c.charge-all.ensures.modest;
+      loads = loaded_front q c.charge_all.new.left _ charged;
+      modest = c.charge_all.ensures.modest;
     }

@@ -6,10 +6,10 @@ use Rattle.lmcut.proofs.marks.mark.Goals as goal
 
 pub loop-node-init : goal.loop-node-init
 loop-node-init c =
-    (tt, tt, marking_start c.args.words.now c.args.word c.args.action _ c.requires.sized (ap (λ b. b.word) c.into-iter-node-iterator.ensures.into-iter-gives ∙ c.new-node-items.ensures))
+    (tt, tt, marking_start c.args.words.now c.args.word c.args.action _ c.requires.sized (ap (λ b. b.word) c.into_iter-node-iterator.ensures.into_iter_gives ∙ c.new-node-items.ensures))
 
-pub offset-bounds-words-node : goal.offset-bounds-words-node
-offset-bounds-words-node c = let l = node_below _ _ _ c.in-Some.ensures.steps in omega arith
+pub offset_bounds-words-node : goal.offset_bounds-words-node
+offset_bounds-words-node c = let l = node_below _ _ _ c.in-Some.ensures.steps in omega arith
 
 pub bounds-words-node : goal.bounds-words-node
 bounds-words-node c = node_below _ _ _ c.in-Some.ensures.steps

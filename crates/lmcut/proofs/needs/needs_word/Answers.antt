@@ -11,7 +11,7 @@ use Rattle.lmcut.proofs.needs.needs_word.Goals.{In-Some, Joined-link-eq2, then-l
 
 pub loop-link-init : goal.loop-link-init
 loop-link-init c =
-    let it = c.into-iter-link-iterator.ensures.into-iter-gives in
+    let it = c.into_iter-link-iterator.ensures.into_iter_gives in
     let links = ap (λ k. k.links.now) it ∙ c.new-link-items.ensures.0 ∙ ap (λ t. t.links.now) c.tables.ensures in
     let s = needed_start (problem c.args.task.now) c.args.first _ _ (kept_rules c.args.task.now) c.requires links (ap (λ k. k.at) it ∙ c.new-link-items.ensures.1) in
     (s.going.can, tt, s)
@@ -23,24 +23,24 @@ gone c = let e = c.in-Some.ensures in going_step _ Needs c.in-Some.link _ _ _ _ 
 condition_small : (c : In-Some) → (c.in-Some.link.kind ≡ 2 → ⊥) → (1 ≤ c.in-Some.link.subject) × (c.tables-facts.result.head.facts + c.in-Some.link.subject ≤ 128)
 condition_small c k =
     let t = kept_rules c.args.task.now in
-    let h = need_condition _ _ (gone c).ranges k in
+    let h = need_condition _ _ (gone c).fits k in
     (h.0, omega (arith, h.1, t.few_conditions, t.facts, ap (λ z. z.head.facts) c.tables-facts.ensures))
 
-pub overflow-add-node : goal.overflow-add-node
-overflow-add-node c = record { fits = omega (arith, (condition_small (goal.at.overflow-add-node c).In-Some c.if-link-eq2.false).1) }
+pub overflow_add-node : goal.overflow_add-node
+overflow_add-node c = record { fits = omega (arith, (condition_small (goal.at.overflow_add-node c).In-Some c.if-link-eq2.false).1) }
 
-pub overflow-sub-node : goal.overflow-sub-node
-overflow-sub-node c = omega (arith, (condition_small (goal.at.overflow-sub-node c).In-Some c.if-link-eq2.false).0)
+pub overflow_sub-node : goal.overflow_sub-node
+overflow_sub-node c = omega (arith, (condition_small (goal.at.overflow_sub-node c).In-Some c.if-link-eq2.false).0)
 
 -- the node is that of the need
 node_is : (c : Joined-link-eq2) → node_of (problem c.args.task.now) c.in-Some.link ≡ c.if-link-eq2.node
 node_is c = elim c.if-link-eq2.branch [
-  | then-link-eq2 w ↦ node_fact (problem c.args.task.now) c.in-Some.link w.if-link-eq2.true ∙ sym w.node_is
-  | else-link-eq2 w ↦ node_condition (problem c.args.task.now) c.in-Some.link w.if-link-eq2.false ∙ sym (w.node_is ∙ ap (λ t. t.head.facts + c.in-Some.link.subject - 1) c.tables-facts.ensures)
+  | then-link-eq2 w ↦ node_fact (problem c.args.task.now) c.in-Some.link w.if-link-eq2.true ∙ sym w.node-is
+  | else-link-eq2 w ↦ node_condition (problem c.args.task.now) c.in-Some.link w.if-link-eq2.false ∙ sym (w.node-is ∙ ap (λ t. t.head.facts + c.in-Some.link.subject - 1) c.tables-facts.ensures)
 ]
 
-pub overflow-shl-word : goal.overflow-shl-word
-overflow-shl-word c = subst (λ m. m < 128) (node_is (goal.at.overflow-shl-word c).Joined-link-eq2) (node_small (problem c.args.task.now) c.in-Some.link (kept_rules c.args.task.now) (gone (goal.at.overflow-shl-word c).In-Some).fits)
+pub overflow_shl-word : goal.overflow_shl-word
+overflow_shl-word c = subst (λ m. m < 128) (node_is (goal.at.overflow_shl-word c).Joined-link-eq2) (node_small (problem c.args.task.now) c.in-Some.link (kept_rules c.args.task.now) (gone (goal.at.overflow_shl-word c).In-Some).fits)
 
 pub loop-link-preserved : goal.loop-link-preserved
 loop-link-preserved c =

@@ -16,8 +16,8 @@ use Rattle.lmcut.proofs.Rows.{RowUpTo, rows_start, rows_left, rows_raised, rows_
 use Rattle.lmcut.proofs.reaches.reached.Goals as goal
 use Rattle.lmcut.proofs.reaches.reached.Goals.{then-gain-gt0, else-gain-gt0}
 
-pub effects-done-done-requires : goal.effects-done-done-requires
-effects-done-done-requires c =
+pub effects_done-done-requires : goal.effects_done-done-requires
+effects_done-done-requires c =
     let p = problem c.args.task.now in
     subst (λ t. ChainKeeps p Effects (move_at (contents t) c.args.number).effects) (sym c.tables-tables.ensures)
     (move_keeps p c.args.number (kept_rules c.args.task.now) c.requires.from c.requires.upto).effects
@@ -27,7 +27,7 @@ loop-index-init c =
     let p = problem c.args.task.now in
     let k = kept_rules c.args.task.now in
     let s = c.args.state.now in
-    let sets = c.effects-done-done.ensures.sets ∙ ap (λ t. made (chain p.links (move_at (contents t) c.args.number).effects)) c.tables-tables.ensures in
+    let sets = c.effects_done-done.ensures.sets ∙ ap (λ t. made (chain p.links (move_at (contents t) c.args.number).effects)) c.tables-tables.ensures in
     let start = c.from-nodes.ensures ∙ ap (λ w. bit_xor w (bit_and w s.facts)) sets in
     subst₂ (RowUpTo p s (effects_of p c.args.number) 0) (sym start) (sym c.requires.zeros)
     (rows_start p s (effects_of p c.args.number) (keeps_fit p Effects _ (move_keeps p c.args.number k c.requires.from c.requires.upto).effects))
@@ -48,11 +48,11 @@ module _ (task : Task) (t : Tables) (e : t ≡ task.tables) (index : ℕ) (h : i
   place_below : index < 64
   place_below = let n = (kept_rules task).few_conditions in let i = inside in omega arith
 
-pub gain-on-gain-requires : goal.gain-on-gain-requires
-gain-on-gain-requires c =
+pub gain_on-gain-requires : goal.gain_on-gain-requires
+gain_on-gain-requires c =
     let p = problem c.args.task.now in
-    let cs = c.effects-done-done.result.changes in
-    let ch = subst (λ t. Changes cs (chain p.links (move_at (contents t) c.args.number).effects)) c.tables-tables.ensures c.effects-done-done.ensures.changes in
+    let cs = c.effects_done-done.result.changes in
+    let ch = subst (λ t. Changes cs (chain p.links (move_at (contents t) c.args.number).effects)) c.tables-tables.ensures c.effects_done-done.ensures.changes in
     let i = inside c.args.task.now c.tables-tables.result c.tables-tables.ensures c.loop-index.index c.loop-index-test.true in
     record {
       inside = i;
@@ -60,8 +60,8 @@ gain-on-gain-requires c =
       fits = gain_fits p (kept_rules c.args.task.now) c.args.number c.requires.from c.requires.upto cs ch c.loop-index.index i;
     }
 
-pub overflow-shl-nodes : goal.overflow-shl-nodes
-overflow-shl-nodes c = bit_below c.args.task.now c.tables-tables.result c.tables-tables.ensures c.loop-index.index c.loop-index-test.true
+pub overflow_shl-nodes : goal.overflow_shl-nodes
+overflow_shl-nodes c = bit_below c.args.task.now c.tables-tables.result c.tables-tables.ensures c.loop-index.index c.loop-index-test.true
 
 pub bounds-gains-index : goal.bounds-gains-index
 bounds-gains-index c = place_below c.args.task.now c.tables-tables.result c.tables-tables.ensures c.loop-index.index c.loop-index-test.true
@@ -73,18 +73,18 @@ loop-index-preserved c =
     let s = c.args.state.now in
     let n = c.args.number in
     let index = c.loop-index.index in
-    let cs = c.effects-done-done.result.changes in
-    let ch = subst (λ t. Changes cs (chain p.links (move_at (contents t) n).effects)) c.tables-tables.ensures c.effects-done-done.ensures.changes in
+    let cs = c.effects_done-done.result.changes in
+    let ch = subst (λ t. Changes cs (chain p.links (move_at (contents t) n).effects)) c.tables-tables.ensures c.effects_done-done.ensures.changes in
     let i = inside c.args.task.now c.tables-tables.result c.tables-tables.ensures index c.loop-index-test.true in
     let b = bit_below c.args.task.now c.tables-tables.result c.tables-tables.ensures index c.loop-index-test.true in
-    let g = c.gain-on-gain.result in
-    let some = c.gain-on-gain.ensures.some in
+    let g = c.gain_on-gain.result in
+    let some = c.gain_on-gain.ensures.some in
     let held = get_or c.args.holds.now (p.head.facts + index) false in
     elim c.if-gain-gt0.branch [
       | then-gain-gt0 w ↦
           let shifted = one_shl (c.tables-tables.result.head.facts + index) 128 b ∙ ap (λ t. 2 ^ (t.head.facts + index)) c.tables-tables.ensures in
           subst₂ (RowUpTo p s (effects_of p n) (index + 1)) (sym (w.nodes-is ∙ ap (bit_or c.loop-index.nodes) shifted)) (sym w.gains-is)
-          (rows_raised p k n c.requires.from c.requires.upto cs ch index i s c.loop-index.nodes c.loop-index.gains c.loop-index.invariant held (c.requires.held index i) g some w.if-gain-gt0.true (c.gain-on-gain.ensures.is w.if-gain-gt0.true))
+          (rows_raised p k n c.requires.from c.requires.upto cs ch index i s c.loop-index.nodes c.loop-index.gains c.loop-index.invariant held (c.requires.held index i) g some w.if-gain-gt0.true (c.gain_on-gain.ensures.is w.if-gain-gt0.true))
       | else-gain-gt0 w ↦
           subst₂ (RowUpTo p s (effects_of p n) (index + 1)) (sym w.nodes-is) (sym w.gains-is)
           (rows_left p k n c.requires.from c.requires.upto cs ch index i s c.loop-index.nodes c.loop-index.gains c.loop-index.invariant held (c.requires.held index i) g some w.if-gain-gt0.false)

@@ -8,13 +8,13 @@ use Rattle.lmcut.proofs.rounds.run.Goals as goal
 use Rattle.lmcut.proofs.rounds.run.Goals.{then-tally-records, else-tally-records}
 
 pub rounds-init : goal.rounds-init
-rounds-init c = rounding_start c.args.question.now c.args.records.now c.full-costs-left.result c.requires c.full-costs-left.ensures.modest c.full-costs-left.ensures.whole
+rounds-init c = rounding_start c.args.question.now c.args.records.now c.full_costs-left.result c.requires c.full_costs-left.ensures.modest c.full_costs-left.ensures.whole
 
 pub charged-init : goal.charged-init
 charged-init c = (noting_start _ _ _ _ _, refl)
 
-pub overflow-sub-charge : goal.overflow-sub-charge
-overflow-sub-charge c = (paid_at c.args.question.now c.rounds.left c.values-values.result c.requires c.values-values.ensures c.if-goal.false c.if-goal-eq0.false c.pay-weight.result c.pay-weight.new.left c.pay-weight.ensures.weighs c.pay-weight.ensures.charged c.charged.action (omega arith)).0
+pub overflow_sub-charge : goal.overflow_sub-charge
+overflow_sub-charge c = (paid_at c.args.question.now c.rounds.left c.values-values.result c.requires c.values-values.ensures c.if-goal.false c.if-goal-eq0.false c.pay-weight.result c.pay-weight.new.left c.pay-weight.ensures.weighs c.pay-weight.ensures.charged c.charged.action (omega arith)).0
 
 pub charged-preserved-then-charge-eq0 : goal.charged-preserved-then-charge-eq0
 charged-preserved-then-charge-eq0 c = (
@@ -36,8 +36,8 @@ charged-preserved c =
       c.charged.invariant.1,
     )
 
-pub overflow-add-tally-in-rounds : goal.overflow-add-tally-in-rounds
-overflow-add-tally-in-rounds c =
+pub overflow_add-tally-in-rounds : goal.overflow_add-tally-in-rounds
+overflow_add-tally-in-rounds c =
     let w = weight_small c.args.question.now c.rounds.left c.values-values.result c.requires c.values-values.ensures c.pay-weight.result c.rounds.invariant.modest c.pay-weight.ensures.weighs in
     let k = c.charged.invariant.1 in
     omega arith

@@ -6,10 +6,10 @@ use Rattle.lmcut.proofs.Leading.{Taking, lowest, taking_start, taking_small, tak
 use Rattle.lmcut.proofs.spread.goal_zone.Goals as goal
 
 pub loop-fresh-init : goal.loop-fresh-init
-loop-fresh-init c = taking_start c.args.question.now c.args.left.now c.args.sources.now c.requires.fits c.requires.placed c.last-lead-fresh.result c.last-lead-fresh.ensures
+loop-fresh-init c = taking_start c.args.question.now c.args.left.now c.args.sources.now c.requires.fits c.requires.placed c.last_lead-fresh.result c.last_lead-fresh.ensures
 
-pub overflow-shl-zone : goal.overflow-shl-zone
-overflow-shl-zone c =
+pub overflow_shl-zone : goal.overflow_shl-zone
+overflow_shl-zone c =
     let w = c.loop-fresh.fresh in
     let p : 0 < w = omega arith in
     let f = taking_small c.args.question.now c.args.left.now c.args.sources.now c.requires.fits c.requires.placed c.loop-fresh.zone c.loop-fresh.fresh c.loop-fresh.invariant in

@@ -12,8 +12,8 @@ source_small c =
     let f = c.requires.fits.few_nodes in
     omega arith
 
-pub overflow-shl-result : goal.overflow-shl-result
-overflow-shl-result c = source_small (goal.at.overflow-shl-result c).In-Some
+pub overflow_shl-result : goal.overflow_shl-result
+overflow_shl-result c = source_small (goal.at.overflow_shl-result c).In-Some
 
 pub returns-then-left-helper-eq0 : goal.returns-then-left-helper-eq0
 returns-then-left-helper-eq0 c =

@@ -4,8 +4,8 @@ use Rattle.lmcut.specs.Spreading.{Sources}
 use Rattle.lmcut.proofs.Leading.{lead_light}
 use Rattle.lmcut.proofs.spread.lead.Goals as goal
 
-pub overflow-shl-result : goal.overflow-shl-result
-overflow-shl-result c = let h = c.requires.placed c.args.action c.in-Some.source c.requires.inside c.in-Some.is in let f = c.requires.fits.few_nodes in omega arith
+pub overflow_shl-result : goal.overflow_shl-result
+overflow_shl-result c = let h = c.requires.placed c.args.action c.in-Some.source c.requires.inside c.in-Some.is in let f = c.requires.fits.few_nodes in omega arith
 
 pub returns-then-weightless : goal.returns-then-weightless
 returns-then-weightless c =

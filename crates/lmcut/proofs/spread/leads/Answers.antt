@@ -15,7 +15,7 @@ loop-part-preserved c =
     let m = c.args.node in
     let p = c.loop-part.part in
     let next : 128 * p + 128 ≡ 128 * (p + 1) = omega arith in
-    subst (λ k. Sources q rs ss m 0 k (bit_or c.loop-part.found c.leads-of-found.result)) next (sources_or q rs ss m 0 (128 * p) (128 * p + 128) c.loop-part.found c.leads-of-found.result c.loop-part.invariant c.leads-of-found.ensures)
+    subst (λ k. Sources q rs ss m 0 k (bit_or c.loop-part.found c.leads_of-found.result)) next (sources_or q rs ss m 0 (128 * p) (128 * p + 128) c.loop-part.found c.leads_of-found.result c.loop-part.invariant c.leads_of-found.ensures)
 
 pub returns : goal.returns
 returns c =

@@ -4,15 +4,15 @@ use Rattle.lmcut.proofs.spread.leads_of.Goals as goal
 use Rattle.lmcut.proofs.spread.leads_of.Goals.{In-Some}
 
 pub loop-bit-init : goal.loop-bit-init
-loop-bit-init c = (tt, tt, finding_start _ _ _ _ _ _ (ap (λ b. b.word) c.into-iter-bit-iterator.ensures.into-iter-gives ∙ c.new-bit-items.ensures))
+loop-bit-init c = (tt, tt, finding_start _ _ _ _ _ _ (ap (λ b. b.word) c.into_iter-bit-iterator.ensures.into_iter_gives ∙ c.new-bit-items.ensures))
 
 -- the action is one of the question's
 action_inside : (c : In-Some) → 128 * c.args.part + c.in-Some.bit < c.args.question.now.actions
 action_inside c =
     finding_inside c.args.question.now c.args.left.now c.args.sources.now c.args.node c.args.part c.requires.fits c.requires.inside c.requires.few c.loop-bit.bit-iterator.word c.loop-bit.found c.loop-bit.invariant.2 c.in-Some.bit c.next.new.self.word c.in-Some.ensures.steps
 
-pub overflow-add-part : goal.overflow-add-part
-overflow-add-part c = record { fits = let l = action_inside (goal.at.overflow-add-part c).In-Some in let few = c.requires.fits.few_actions in omega arith }
+pub overflow_add-part : goal.overflow_add-part
+overflow_add-part c = record { fits = let l = action_inside (goal.at.overflow_add-part c).In-Some in let few = c.requires.fits.few_actions in omega arith }
 
 pub lead-found-requires : goal.lead-found-requires
 lead-found-requires c = record {

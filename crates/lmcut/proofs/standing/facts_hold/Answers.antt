@@ -14,8 +14,8 @@ inside c = let e = ap (λ (t : Tables). t.head.facts) c.tables.ensures in omega 
 pub loop-fact-init : goal.loop-fact-init
 loop-fact-init c = holding_start _
 
-pub overflow-shr-holds : goal.overflow-shr-holds
-overflow-shr-holds c = let h = inside c in let few = (kept_rules c.args.task.now).facts in omega arith
+pub overflow_shr-holds : goal.overflow_shr-holds
+overflow_shr-holds c = let h = inside c in let few = (kept_rules c.args.task.now).facts in omega arith
 
 pub bounds-holds-fact : goal.bounds-holds-fact
 bounds-holds-fact c = let h = inside c in let few = (kept_rules c.args.task.now).facts in omega arith

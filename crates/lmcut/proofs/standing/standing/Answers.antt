@@ -11,7 +11,7 @@ use Rattle.lmcut.proofs.Shortfalls.{Stood, stood_start, stood_step, stood_end, g
 use Rattle.lmcut.proofs.standing.standing.Goals as goal
 
 pub loop-index-init : goal.loop-index-init
-loop-index-init c = stood_start _ _ _ _ (search rules) (search rules) c.facts-hold-holds.ensures.facts c.facts-hold-holds.ensures.rest
+loop-index-init c = stood_start _ _ _ _ (search rules) (search rules) c.facts_hold-holds.ensures.facts c.facts_hold-holds.ensures.rest
 
 -- an index below the length of the table of conditions
 among : (t : Task) {r : Tables} {i : ℕ} → r ≡ t.tables → i < length r.conditions.now → (i < length (problem t).conditions) × (i < 64)
@@ -20,11 +20,11 @@ among t e h =
     let few = (kept_rules t).few_conditions in
     (omega arith, omega arith)
 
-pub overflow-cast-index : goal.overflow-cast-index
-overflow-cast-index c = let h = (among c.args.task.now c.tables-tables.ensures c.loop-index-test.true).1 in record { fits = omega arith }
+pub overflow_cast-index : goal.overflow_cast-index
+overflow_cast-index c = let h = (among c.args.task.now c.tables-tables.ensures c.loop-index-test.true).1 in record { fits = omega arith }
 
-pub overflow-add-index : goal.overflow-add-index
-overflow-add-index c = let h = (among c.args.task.now c.tables-tables.ensures c.loop-index-test.true).1 in record { fits = omega arith }
+pub overflow_add-index : goal.overflow_add-index
+overflow_add-index c = let h = (among c.args.task.now c.tables-tables.ensures c.loop-index-test.true).1 in record { fits = omega arith }
 
 pub bounds-holds-facts : goal.bounds-holds-facts
 bounds-holds-facts c =
@@ -44,8 +44,8 @@ module _ (c : goal.After-max) where
   above : to_z w64 (of_z w64 c.max.result) ≡ int_max the-gap (pos 0)
   above = let f : SFits w64 c.max.result = search rules in to_z-of_z w64 _ f ∙ c.max.ensures.value ∙ ap (λ z. int_max z (pos 0)) told
 
-pub overflow-cast-shorts : goal.overflow-cast-shorts
-overflow-cast-shorts c =
+pub overflow_cast-shorts : goal.overflow_cast-shorts
+overflow_cast-shorts c =
     let small = gap_small (problem c.args.task.now) c.args.state.now c.loop-index.index (among c.args.task.now c.tables-tables.ensures c.loop-index-test.true).0 (kept_rules c.args.task.now) c.requires in
     subst (λ z. T (non_neg z) × Fits w32 (nat_abs z)) (sym (above c)) (above_fits (the-gap c) small)
 

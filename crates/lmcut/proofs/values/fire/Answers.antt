@@ -8,8 +8,8 @@ use Rattle.lmcut.proofs.values.fire.Goals.{In-Some}
 
 pub loop-node-init : goal.loop-node-init
 loop-node-init c =
-    let word = ap (λ b. b.word) c.into-iter-node-iterator.ensures.into-iter-gives ∙ c.new-node-items.ensures in
-    (tt, tt, firing_start c.args.question.now c.args.action c.args.left c.args.top c.into-iter-node-iterator.result.word c.args.values.now c.requires.0 word, c.requires.1.1.1.1)
+    let word = ap (λ b. b.word) c.into_iter-node-iterator.ensures.into_iter_gives ∙ c.new-node-items.ensures in
+    (tt, tt, firing_start c.args.question.now c.args.action c.args.left c.args.top c.into_iter-node-iterator.result.word c.args.values.now c.requires.0 word, c.requires.1.1.1.1)
 
 -- the action's word has the node
 node_set : (c : In-Some) → fact_holds (get_or c.args.question.now.reach c.args.action 0) c.in-Some.node ≡ true
@@ -27,7 +27,7 @@ node_inside c = c.requires.0.reach_inside c.args.action c.in-Some.node (node_set
 pub weight-requires : goal.weight-requires
 weight-requires c =
     let l = node_inside (goal.at.weight-requires c).In-Some in
-    let e = c.requires.0.edges_small c.args.action c.in-Some.node c.inner_edge.result c.requires.1.0 (omega arith) c.inner_edge.ensures in
+    let e = c.requires.0.edges_small c.args.action c.in-Some.node c.inner-edge.result c.requires.1.0 (omega arith) c.inner-edge.ensures in
     (c.requires.1.1.0, (e.1, e.2))
 
 pub loop-node-preserved : goal.loop-node-preserved
@@ -44,7 +44,7 @@ loop-node-preserved c =
     let long : length ys ≡ 129 = g.fired.long ∙ c.told-values in
     let few = c.requires.0.few_nodes in
     let l : n < length ys = omega (arith, inside, long, few) in
-    let there = firing_next q a r top c.loop-node.node-iterator.word xs ys g n c.next.new.self.word c.inner_edge.result c.requires.0 c.in-Some.ensures.steps c.inner_edge.ensures l in
+    let there = firing_next q a r top c.loop-node.node-iterator.word xs ys g n c.next.new.self.word c.inner-edge.result c.requires.0 c.in-Some.ensures.steps c.inner-edge.ensures l in
     (tt, tt, subst (Firing q a r top c.next.new.self.word xs) (sym (c.offer.ensures.is ∙ ap (λ x. put ys n (top + x)) c.weight.ensures.is)) there, c.offer.ensures.queued)
 
 pub returns-then-action-question : goal.returns-then-action-question

@@ -11,8 +11,8 @@ loop-part-preserved c =
     let q = c.args.question.now in
     let due = fires_at q c.args.open c.args.last.number in
     let next : 128 * c.loop-part.part + 128 ≡ 128 * (c.loop-part.part + 1) = omega arith in
-    let s = c.settle-part.ensures.reached c.args.values.now c.loop-part.invariant.0 in
-    (subst (λ k. ReachedTo q c.args.left.now due c.args.last.value k c.args.values.now c.settle-part.new.values) next s, c.settle-part.ensures.queued)
+    let s = c.settle_part.ensures.reached c.args.values.now c.loop-part.invariant.0 in
+    (subst (λ k. ReachedTo q c.args.left.now due c.args.last.value k c.args.values.now c.settle_part.new.values) next s, c.settle_part.ensures.queued)
 
 pub returns : goal.returns
 returns c =

@@ -5,25 +5,25 @@ use Rattle.lmcut.proofs.values.settle_part.Goals.{In-Some}
 
 pub loop-bit-init : goal.loop-bit-init
 loop-bit-init c =
-    let word = ap (λ b. b.word) c.into-iter-bit-iterator.ensures.into-iter-gives ∙ c.new-bit-items.ensures in
-    (tt, tt, passing_start c.args.question.now c.args.left.now c.args.open c.args.last.number c.args.last.value c.args.part c.into-iter-bit-iterator.result.word c.args.values.now word, c.requires.queued)
+    let word = ap (λ b. b.word) c.into_iter-bit-iterator.ensures.into_iter_gives ∙ c.new-bit-items.ensures in
+    (tt, tt, passing_start c.args.question.now c.args.left.now c.args.open c.args.last.number c.args.last.value c.args.part c.into_iter-bit-iterator.result.word c.args.values.now word, c.requires.queued)
 
 -- the action is one of the question's
 action_inside : (c : In-Some) → 128 * c.args.part + c.in-Some.bit < c.args.question.now.actions
 action_inside c =
     passing_inside c.args.question.now c.args.left.now c.args.open c.args.last.number c.args.last.value c.args.part c.loop-bit.bit-iterator.word c.args.values.now c.requires.fits c.requires.inside.0 c.requires.inside.1.1 c.loop-bit.values c.loop-bit.invariant.2 c.in-Some.bit c.next.new.self.word c.in-Some.ensures.steps
 
-pub overflow-add-action : goal.overflow-add-action
-overflow-add-action c = record { fits = let l = action_inside (goal.at.overflow-add-action c).In-Some in let few = c.requires.fits.few_actions in omega arith }
+pub overflow_add-action : goal.overflow_add-action
+overflow_add-action c = record { fits = let l = action_inside (goal.at.overflow_add-action c).In-Some in let few = c.requires.fits.few_actions in omega arith }
 
-pub offset-bounds-question-action : goal.offset-bounds-question-action
-offset-bounds-question-action c = record { fits = let l = action_inside (goal.at.offset-bounds-question-action c).In-Some in let few = c.requires.fits.few_actions in omega arith }
+pub offset_bounds-question-action : goal.offset_bounds-question-action
+offset_bounds-question-action c = record { fits = let l = action_inside (goal.at.offset_bounds-question-action c).In-Some in let few = c.requires.fits.few_actions in omega arith }
 
 pub bounds-question-action : goal.bounds-question-action
 bounds-question-action c = let l = action_inside (goal.at.bounds-question-action c).In-Some in let few = c.requires.fits.few_actions in omega arith
 
-pub offset-bounds-left-action : goal.offset-bounds-left-action
-offset-bounds-left-action c = record { fits = let l = action_inside (goal.at.offset-bounds-left-action c).In-Some in let few = c.requires.fits.few_actions in omega arith }
+pub offset_bounds-left-action : goal.offset_bounds-left-action
+offset_bounds-left-action c = record { fits = let l = action_inside (goal.at.offset_bounds-left-action c).In-Some in let few = c.requires.fits.few_actions in omega arith }
 
 pub bounds-left-action : goal.bounds-left-action
 bounds-left-action c = let l = action_inside (goal.at.bounds-left-action c).In-Some in let few = c.requires.fits.few_actions in omega arith

@@ -10,8 +10,8 @@ use Rattle.lmcut.proofs.values.values.Goals as goal
 pub begin-open-requires : goal.begin-open-requires
 begin-open-requires c = (c.requires.0, λ n l. get_or-replicate 129 n infinite 0 l)
 
-pub settle-first-requires : goal.settle-first-requires
-settle-first-requires c =
+pub settle_first-requires : goal.settle_first-requires
+settle_first-requires c =
     let q = c.args.question.now in
     let xs = c.begin-open.new.values in
     let w = c.begin-open.result in
@@ -26,10 +26,10 @@ loop-node-init c =
     let xs = c.begin-open.new.values in
     let w = c.begin-open.result in
     let g = going_start q rs xs w c.requires.0 c.begin-open.ensures.begun c.begin-open.ensures.opened in
-    ((0, going_fired q rs xs c.settle-first.new.values w 0 (ready_at q w) c.requires.0 c.requires.1 g c.settle-first.ensures.reached), c.settle-first.ensures.queued)
+    ((0, going_fired q rs xs c.settle_first.new.values w 0 (ready_at q w) c.requires.0 c.requires.1 g c.settle_first.ensures.reached), c.settle_first.ensures.queued)
 
-pub overflow-shl-open : goal.overflow-shl-open
-overflow-shl-open c =
+pub overflow_shl-open : goal.overflow_shl-open
+overflow_shl-open c =
     turn_inside c.args.question.now c.args.left.now c.loop-node.values c.loop-node.open c.loop-node.invariant.0.0 c.loop-node.heap c.in-Some.node c.requires.0 c.loop-node.invariant.0.1 c.loop-node.invariant.1 c.in-Some.ensures.first
 
 pub settle-requires : goal.settle-requires
@@ -58,5 +58,5 @@ loop-node-preserved c =
 
 pub returns : goal.returns
 returns c =
-    let none = queued_none c.loop-node.values c.loop-node.open c.args.question.now.nodes c.loop-node.heap c.loop-node.invariant.1 c.in-default.ensures.first in
+    let none = queued_none c.loop-node.values c.loop-node.open c.args.question.now.nodes c.loop-node.heap c.loop-node.invariant.1 c.in_default.ensures.first in
     going_valued c.args.question.now c.args.left.now c.loop-node.values c.loop-node.open c.loop-node.invariant.0.0 c.requires.0 c.requires.1 c.loop-node.invariant.0.1 none

@@ -8,4 +8,4 @@ invariant_of-self c =
     let h = c.args.self.now.heap in
     let k = c.push-added.new.self in
     let few = push_all h _ k c.push-added.result c.push-added.ensures.pushed Small c.if-x-lt100.true in
-    (c.push-added.ensures.lawful, (∥∥₁_map c.args.self.now.small few, tt))
+    record { lawful = c.push-added.ensures.lawful; small = ∥∥₁_map c.args.self.now.small few }

@@ -9,7 +9,7 @@ pub invariant_of-self : goal.invariant_of-self
 invariant_of-self c =
     let was = c.loop.self in
     let left = pop_all was.heap c.pop.new.self c.pop.result c.pop.ensures.popped Small in
-    (c.pop.ensures.lawful, (∥∥₁_map was.small left, tt))
+    record { lawful = c.pop.ensures.lawful; small = ∥∥₁_map was.small left }
 
 pub loop-preserved : goal.loop-preserved
 loop-preserved c =

@@ -3,4 +3,4 @@ use Rattle.order_tests.specs.Numbered.{Small}
 use Rattle.order_tests.proofs.queue.Queue.new.Goals as goal
 
 pub invariant_of-result : goal.invariant_of-result
-invariant_of-result c = (c.new.ensures.lawful, (∣ empty_all c.new.result c.new.ensures.empty Small ∣₁, tt))
+invariant_of-result c = record { lawful = c.new.ensures.lawful; small = ∣ empty_all c.new.result c.new.ensures.empty Small ∣₁ }

@@ -16,7 +16,7 @@ pub invariant_of-self : goal.invariant_of-self
 invariant_of-self c =
     let h = c.args.self.now.heap in
     let left = pop_all h c.pop.new.self c.pop.result c.pop.ensures.popped Small in
-    (c.pop.ensures.lawful, (∥∥₁_map c.args.self.now.small left, tt))
+    record { lawful = c.pop.ensures.lawful; small = ∥∥₁_map c.args.self.now.small left }
 
 pub returns : goal.returns
 returns c =
