@@ -14,10 +14,10 @@ loop-ground-preserved g c plain =
     let before = c.loop-ground.invariant plain in
     has_written_of_eq g.W.Write.write_str_gives _ _ _ _
     (joined_more ground_text c.args.records.now c.loop-ground.ground-index (record { round = 0; weight = 0; number = 0; charge = 0 }) c.loop-ground-test.true)
-    (has_written_append g.W.Write.write_str_gives _ _ _ _ _ before (c.in-ok-show-ground.ensures before.plain refl))
+    (has_written_append g.W.Write.write_str_gives _ _ _ _ _ before (c.in_ok-show_ground.ensures before.plain refl))
 
 pub returns : goal.returns
 returns g c plain e =
-    let head = c.in-ok-write.ensures.shows plain refl in
+    let head = c.in_ok-write.ensures.writes plain refl in
     has_written_of_eq g.W.Write.write_str_gives _ _ _ _ (ap (λ gs. (codes "grounds " ++ decimal (length c.args.records.now)) ++ concat (map ground_text gs)) (take_all _ c.args.records.now c.loop-ground-test.false))
     (has_written_append g.W.Write.write_str_gives _ _ _ _ _ head (c.loop-ground.invariant head.plain))

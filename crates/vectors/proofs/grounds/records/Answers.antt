@@ -11,17 +11,17 @@ returns-in-Ok c =
     let p = problem c.args.task.now in
     let s = c.args.state.now in
     let most = (counts_stand p ((decides_accepted p).1 (kept_rules c.args.task.now)) s).records in
-    let long = c.as-mut-slice.ensures.len in
-    let sized = c.in-ok-resize.ensures.len in
+    let long = c.as_mut_slice.ensures.len in
+    let sized = c.in_ok-resize.ensures.len in
     let held = c.min.ensures in
-    told_all p s c.args.room c.as-mut-slice.result.now c.grounds.new.buffer _ _ _ _ (omega arith) (omega arith) (sym long) c.in-Ok.ensures.told c.in-Ok.ensures.written c.truncate.ensures.items
+    told_all p s c.args.room c.as_mut_slice.result.now c.grounds.new.buffer _ _ _ _ (omega arith) (omega arith) (sym long) c.in-Ok.ensures.told c.in-Ok.ensures.written c.truncate.ensures.items
 
 pub returns-in-Err : goal.returns-in-Err
 returns-in-Err c =
     let p = problem c.args.task.now in
     let s = c.args.state.now in
     let most = (counts_stand p ((decides_accepted p).1 (kept_rules c.args.task.now)) s).records in
-    let long = c.as-mut-slice.ensures.len in
-    let sized = c.in-ok-resize.ensures.len in
+    let long = c.as_mut_slice.ensures.len in
+    let sized = c.in_ok-resize.ensures.len in
     let held = c.min.ensures in
-    told_short p s c.args.room c.as-mut-slice.result.now _ (omega arith) (omega arith) c.in-Err.ensures.told
+    told_short p s c.args.room c.as_mut_slice.result.now _ (omega arith) (omega arith) c.in-Err.ensures.told

@@ -6,13 +6,8 @@ use Rattle.vectors.specs.Said.{seen}
 use Rattle.vectors.proofs.Steps.{accepted_all, seen_push}
 use Rattle.vectors.proofs.serve.accept.Goals as goal
 
-pub returns-in-ok-push : goal.returns-in-ok-push
-returns-in-ok-push c =
-    seen_push _ _ _ c.in-ok-push.ensures.items
-    ∙ ap (λ r. map seen (vec_items c.args.said.now) ++ after_check (contents c.args.tables) c.args.rest.now r) c.in-Err.ensures.told
-
 pub returns-in-Ok : goal.returns-in-Ok
 returns-in-Ok c =
-    IfOk-weaker c.serve-all.result _ _
+    IfOk-weaker c.serve_all.result _ _
     (λ done e. accepted_all (contents c.args.tables) (contents c.new.result.tables) _ _ _ _ c.in-Ok.ensures.told (ap contents c.new.ensures) e)
-    c.serve-all.ensures
+    c.serve_all.ensures

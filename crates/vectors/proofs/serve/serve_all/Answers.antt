@@ -8,8 +8,8 @@ use Rattle.vectors.proofs.serve.serve_all.Goals as goal
 
 pub loop-directive-preserved : goal.loop-directive-preserved
 loop-directive-preserved c =
-    pushed_more (served (problem c.args.task.now)) c.args.rest.now c.loop-directive.directive-index c.directive-item.result _ _ _ (seen c.in-ok-serve.field-0)
-    c.loop-directive-test.true c.directive-item.is c.in-ok-serve.ensures c.loop-directive.invariant (seen_push _ _ _ c.in-ok-push.ensures.items)
+    pushed_more (served (problem c.args.task.now)) c.args.rest.now c.loop-directive.directive-index c.directive-item.result _ _ _ (seen c.in_ok-serve.field-0)
+    c.loop-directive-test.true c.directive-item.is c.in_ok-serve.ensures c.loop-directive.invariant (seen_push _ _ _ c.in_ok-push.ensures.items)
 
 pub returns : goal.returns
 returns c =
