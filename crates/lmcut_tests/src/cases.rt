@@ -152,8 +152,8 @@ fn recorded(rt: &impl Abort, task: &Task, state: &State, records: &[Landmark]) -
     Ok(())
 }
 
-// What LM-cut answers about a record of a task, and its landmark records.
-fn holds(rt: &impl Abort, task: &Task, case: Case) -> Result<(), Fail> {
+// What LM-cut answers about a record of a task, the case at an index of a list, and its landmark records.
+fn holds(rt: &impl Abort, task: &Task, case: Case, index: usize) -> Result<(), Fail> {
     let (facts, some, answer, records) = case;
     let mut values = [0; 16];
     for (value, given) in values.iter_mut().zip(some) {
@@ -164,7 +164,7 @@ fn holds(rt: &impl Abort, task: &Task, case: Case) -> Result<(), Fail> {
         Some(n) => Estimate::AtLeast(n),
         None => Estimate::Dead,
     };
-    assert_eq!(rt; LmCut.ask(task, &state), expected);
+    assert_eq!(rt; LmCut.ask(task, &state), expected, "case {index}");
     recorded(rt, task, &state, records)
 }
 
@@ -175,7 +175,7 @@ pub(crate) fn all_hold(rt: &impl Abort, tables: Tables, cases: &[Case]) -> Resul
         Ok(()) => {
             let task = Task::new(tables);
             for (index, case) in cases.iter().enumerate() {
-                holds(rt, &task, *case).note(format_args!("case {index}"))?;
+                holds(rt, &task, *case, index)?;
             }
             Ok(())
         }
@@ -204,8 +204,8 @@ fn stands(rt: &impl Abort, heap: Global, sample: &Sample) -> Result<(), Fail> {
 }
 
 pub(crate) fn all_stand(rt: &impl Abort, heap: Global, samples: &[Sample]) -> Result<(), Fail> {
-    for (index, sample) in samples.iter().enumerate() {
-        stands(rt, heap, sample).note(format_args!("sample {index}"))?;
+    for sample in samples {
+        stands(rt, heap, sample)?;
     }
     Ok(())
 }

@@ -1,5 +1,6 @@
 // Tasks with conditions: terms of both signs, roundings, and records that are no states.
 use crate::cases::*;
+use std::test::Fail;
 
 static SIGNS: [Sample; 3] = [
     // 2 v - 3 w at least 5 and w at least 2; move 1 adds 1 to v for 2, move 2 takes 1 from w for 1, move 3 adds 1 to both for 3

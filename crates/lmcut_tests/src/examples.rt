@@ -1,5 +1,6 @@
 // The worked examples, at their start and further on.
 use crate::cases::*;
+use std::test::Fail;
 
 static EXAMPLES: [Sample; 4] = [
     // pads from 0 to 20; move 1 costs 5 and adds 5, move 2 costs 3 and adds 2; the goal is at least 7

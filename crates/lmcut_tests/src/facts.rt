@@ -1,5 +1,6 @@
 // Tasks of facts: chains, shared links, moves of cost 0, ties, and goals that cannot be reached or ask for nothing.
 use crate::cases::*;
+use std::test::Fail;
 
 static CHAINS: [Sample; 2] = [
     // each of five facts but the first is needed for the next; they cost 3, 1, 4, 1 and 5

@@ -3,6 +3,7 @@ ghost use Rattle.std.specs.Prelude.{◌<◌};
 
 use crate::cases::*;
 use std::process::Abort;
+use std::test::Fail;
 use tables::*;
 
 fn link(kind: u32, subject: u32, amount: i32, next: u32) -> Link {
