@@ -46,7 +46,7 @@ fn twos_come_in_order(rt: HostRuntime) -> Result<(), Fail> {
         *x = some_two(seed);
         assert!(rt; heap.push(*x).is_ok());
     }
-    all.sort();
+    all.sort_unstable();
     for x in all {
         assert!(rt; heap.first() == Some(x));
         assert!(rt; heap.pop() == Some(x));
@@ -81,7 +81,7 @@ fn pushes(
     if room {
         copy[7] = x;
     }
-    copy.sort();
+    copy.sort_unstable();
     Ok(())
 }
 
@@ -93,7 +93,7 @@ fn pops(rt: &impl Abort, heap: &mut Heap<ByThree>, copy: &mut [ByThree; 8]) -> R
     assert!(rt; heap.first() == want);
     assert!(rt; heap.pop() == want);
     copy[0] = HIGHEST;
-    copy.sort();
+    copy.sort_unstable();
     Ok(())
 }
 
@@ -114,7 +114,7 @@ fn lowers(
     if may {
         copy[i] = x;
     }
-    copy.sort();
+    copy.sort_unstable();
     Ok(())
 }
 
