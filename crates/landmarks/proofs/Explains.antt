@@ -13,7 +13,7 @@ use Rattle.landmarks.specs.Relaxed.{Reach, Action, Relaxed, goal, relaxed}
 use Rattle.landmarks.specs.Rounds.{ceil_div, Value, value_at, Crossing, cut_weight, charge_of, crosses, grounds_of, Outcome, Dead, Found, noting, cap, unless_ended, settled, rounds, pairs, full_costs, outcome, told, listed, estimate, grounds}
 use Rattle.landmarks.specs.declared.Ground.{Ground}
 use Rattle.estimate.specs.declared.estimate.Estimate.{Estimate}
-use Rattle.estimate.specs.declared.estimate.Estimate.TheVariants.{AtLeast as at_least_lem, Dead as dead}
+use Rattle.estimate.specs.declared.estimate.Estimate.TheVariants.{AtLeast as at_least, Dead as dead}
 use Rattle.landmarks.specs.Laws.{In, WellFormed, Before, Ordered, weights_from, weights, Explained, GroundsExplain}
 use Rattle.landmarks.proofs.Cuts.{Lightest, cut_lightest, worth, cut_now, weight_now}
 use Rattle.landmarks.proofs.Totals.{rest_now}
@@ -155,16 +155,16 @@ module _ (rx : Relaxed) (shorts : ℕ → ℕ) (fit : WellFormed rx shorts) wher
 
 record Answers (e : Estimate) (gs : List Ground) : Type 0 where
   ordered : Ordered gs
-  explained : (n : ℕ) → e ≡ at_least_lem n → n ≡ min (10 ^ 12) (ceil_div (weights gs) 5040)
+  explained : (n : ℕ) → e ≡ at_least n → n ≡ min (10 ^ 12) (ceil_div (weights gs) 5040)
   dead_none : e ≡ dead → gs ≡ []
 
-same_number : (m n : ℕ) → at_least_lem m ≡ at_least_lem n → m ≡ n
+same_number : (m n : ℕ) → at_least m ≡ at_least n → m ≡ n
 same_number m n e = cc
 
-not_dead : (n : ℕ) → at_least_lem n ≡ dead → ⊥
+not_dead : (n : ℕ) → at_least n ≡ dead → ⊥
 not_dead n e = let z : ◌≡◌ {A = ℕ} 0 1 = cc in omega arith
 
-no_answer : Answers (at_least_lem 0) []
+no_answer : Answers (at_least 0) []
 no_answer = record { ordered = tt; explained = λ n e. let z = same_number 0 n e in sym z; dead_none = λ e. refl }
 
 outcome_answers : (p : Problem) → Keeps p → (s : State) → Answers (told (outcome (relaxed p s))) (listed (outcome (relaxed p s)))
@@ -187,8 +187,8 @@ outcome_answers p k s = go (outcome (relaxed p s))
 pub grounds_explain : GroundsExplain
 unfolding estimate grounds
 grounds_explain p acc s = ⊎_elim
-    (λ i. made (subst (λ b. Answers (cond b (told (outcome (relaxed p s))) (at_least_lem 0)) (cond b (listed (outcome (relaxed p s))) [])) (sym i) (outcome_answers p ((decides_accepted p).0 acc) s)))
-    (λ i. made (subst (λ b. Answers (cond b (told (outcome (relaxed p s))) (at_least_lem 0)) (cond b (listed (outcome (relaxed p s))) [])) (sym i) no_answer))
+    (λ i. made (subst (λ b. Answers (cond b (told (outcome (relaxed p s))) (at_least 0)) (cond b (listed (outcome (relaxed p s))) [])) (sym i) (outcome_answers p ((decides_accepted p).0 acc) s)))
+    (λ i. made (subst (λ b. Answers (cond b (told (outcome (relaxed p s))) (at_least 0)) (cond b (listed (outcome (relaxed p s))) [])) (sym i) no_answer))
     (cases_Bool (is_state p s))
   where
     made : Answers (estimate p s) (grounds p s) → Explained p s

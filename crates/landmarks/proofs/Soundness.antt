@@ -14,8 +14,8 @@ use Rattle.landmarks.specs.Relaxed.{Action, Relaxed, goal, relaxed}
 use Rattle.landmarks.specs.Rounds.{ceil_div, Outcome, Dead, Found, rounds, pairs, full_costs, outcome, told, listed, estimate, grounds}
 use Rattle.landmarks.specs.declared.Ground.{Ground}
 use Rattle.estimate.specs.declared.estimate.Estimate.{Estimate}
-use Rattle.estimate.specs.declared.estimate.Estimate.TheVariants.{AtLeast as at_least_lem, Dead as dead}
-use Rattle.landmarks.specs.Laws.{In, WellFormed, charged_in, charged_to, charged_along, Landmarked, EstimateSound, GroundsStand}
+use Rattle.estimate.specs.declared.estimate.Estimate.TheVariants.{AtLeast as at_least, Dead as dead}
+use Rattle.landmarks.specs.Laws.{In, WellFormed, charged_in, charged_to, charged_along, Landmarked, Sound, EstimateSound, GroundsStand}
 use Rattle.estimate.specs.Estimates.{Claims}
 use Rattle.landmarks.proofs.Cuts.{ceil_least}
 use Rattle.landmarks.proofs.Runs.{no_action, action_at, RunFrom, CoveredAfter}
@@ -130,15 +130,15 @@ estimate_sound p acc s = ⊎_elim state_sound other_sound (cases_Bool (is_state 
     k : Keeps p
     k = (decides_accepted p).0 acc
 
-    by_outcome : is_state p s ≡ true → (o : Outcome) → outcome (relaxed p s) ≡ o → Claims p s (told o)
+    by_outcome : is_state p s ≡ true → (o : Outcome) → outcome (relaxed p s) ≡ o → Sound p s (told o)
     by_outcome i Dead e = dead_no_plan p k s i e
     by_outcome i (Found t gs) e = (omega arith, λ ms plan. let b = total_bounded p k s i t gs e ms plan in let c = ceil_least t 5040 (cost p ms) (omega arith) b in omega arith)
 
-    state_sound : is_state p s ≡ true → Claims p s (cond (is_state p s) (told (outcome (relaxed p s))) (at_least_lem 0))
-    state_sound i = subst (Claims p s) (sym (cond-true (is_state p s) (told (outcome (relaxed p s))) (at_least_lem 0) i)) (by_outcome i (outcome (relaxed p s)) refl)
+    state_sound : is_state p s ≡ true → Sound p s (cond (is_state p s) (told (outcome (relaxed p s))) (at_least 0))
+    state_sound i = subst (Sound p s) (sym (cond-true (is_state p s) (told (outcome (relaxed p s))) (at_least 0) i)) (by_outcome i (outcome (relaxed p s)) refl)
 
-    other_sound : is_state p s ≡ false → Claims p s (cond (is_state p s) (told (outcome (relaxed p s))) (at_least_lem 0))
-    other_sound i = subst (Claims p s) (sym (cond-false (is_state p s) (told (outcome (relaxed p s))) (at_least_lem 0) i)) (omega arith, λ ms plan. omega arith)
+    other_sound : is_state p s ≡ false → Sound p s (cond (is_state p s) (told (outcome (relaxed p s))) (at_least 0))
+    other_sound i = subst (Sound p s) (sym (cond-false (is_state p s) (told (outcome (relaxed p s))) (at_least 0) i)) (omega arith, λ ms plan. omega arith)
 
 no_charge : (p : Problem) (s : State) → Landmarked p s []
 no_charge p s = record { landmarks = λ g i. absurd i; afforded = λ m a b. omega arith }
@@ -156,3 +156,11 @@ grounds_stand p acc s = ⊎_elim
     by_outcome : is_state p s ≡ true → (o : Outcome) → outcome (relaxed p s) ≡ o → Landmarked p s (listed o)
     by_outcome i Dead e = no_charge p s
     by_outcome i (Found t gs) e = record { landmarks = charges_reach p k s i t gs e; afforded = charges_afforded p k s t gs e }
+
+-- LM-cut claims what each estimator owes
+sound_claims : (p : Problem) (s : State) (e : Estimate) → Sound p s e → Claims p s e
+sound_claims p s dead h = h
+sound_claims p s (at_least n) h = h
+
+pub estimate_claims : (p : Problem) → accepted p ≡ true → (s : State) → Claims p s (estimate p s)
+estimate_claims p acc s = sound_claims p s (estimate p s) (estimate_sound p acc s)

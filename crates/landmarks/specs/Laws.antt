@@ -12,6 +12,7 @@
 --   charged_in       what a move is charged in a round, by landmark records
 --   charged_to       what a move is charged over all rounds
 --   charged_along    what the moves of a list are charged in a round, counted at each use
+--   Sound            an estimate is at most 10^12 and at most the cost of every plan from a state, or there is no plan where it is dead
 --   Landmarked       in every plan from a state the charges of each round, counted at each use, add up to at least the weight of
 --                    its cut; and over all rounds no move is charged more than 5,040 × its cost
 --   EstimateSound, GroundsStand   so it is for LM-cut, at every accepted problem and every record
@@ -40,8 +41,7 @@ use Rattle.landmarks.specs.Relaxed.{Reach, Action, Relaxed, goal, shortfall, gai
 use Rattle.landmarks.specs.Rounds.{ceil_div, weight, Value, plus, Loaded, loaded, value_at, largest, values, Edges, in_zone, leads_in, goal_zone, led_to, start_zone, Crossing, cut, cut_weight, charge_of, Found, cap, rounds, outcome, estimate, grounds}
 use Rattle.landmarks.specs.declared.Ground.{Ground}
 use Rattle.estimate.specs.declared.estimate.Estimate.{Estimate}
-use Rattle.estimate.specs.declared.estimate.Estimate.TheVariants.{Dead as dead, AtLeast as at_least_lem}
-use Rattle.estimate.specs.Estimates.{Claims}
+use Rattle.estimate.specs.declared.estimate.Estimate.TheVariants.{Dead as dead, AtLeast as at_least}
 use Rattle.tables.specs.Check.{accepted}
 use Rattle.tables.specs.Chains.{chain}
 use Rattle.task.specs.Plans.{cost_of, cost, PlanFrom}
@@ -123,12 +123,16 @@ charged_along gs k (m ∷ ms) = charged_in gs k m + charged_along gs k ms
 
 -- ---- soundness
 
+abbrev pub Sound : Problem → State → Estimate → Type 0
+Sound p s dead = (ms : List ℕ) → PlanFrom p s ms → ⊥
+Sound p s (at_least n) = (n ≤ 10 ^ 12) × ((ms : List ℕ) → PlanFrom p s ms → n ≤ cost p ms)
+
 pub record Landmarked (p : Problem) (s : State) (gs : List Ground) : Type 0 where
   pub landmarks : (g : Ground) → In g gs → (ms : List ℕ) → PlanFrom p s ms → g.weight ≤ charged_along gs g.round ms
   pub afforded : (m : ℕ) → 1 ≤ m → m ≤ length p.moves → charged_to gs m ≤ 5040 * cost_of p m
 
 abbrev pub EstimateSound : Type 0
-EstimateSound = (p : Problem) → accepted p ≡ true → (s : State) → Claims p s (estimate p s)
+EstimateSound = (p : Problem) → accepted p ≡ true → (s : State) → Sound p s (estimate p s)
 
 abbrev pub GroundsStand : Type 0
 GroundsStand = (p : Problem) → accepted p ≡ true → (s : State) → Landmarked p s (grounds p s)
@@ -226,7 +230,7 @@ weights gs = weights_from 0 gs
 
 pub record Explained (p : Problem) (s : State) : Type 0 where
   pub ordered : Ordered (grounds p s)
-  pub explained : (n : ℕ) → estimate p s ≡ at_least_lem n → n ≡ min (10 ^ 12) (ceil_div (weights (grounds p s)) 5040)
+  pub explained : (n : ℕ) → estimate p s ≡ at_least n → n ≡ min (10 ^ 12) (ceil_div (weights (grounds p s)) 5040)
   pub dead_none : estimate p s ≡ dead → grounds p s ≡ []
 
 abbrev pub GroundsExplain : Type 0

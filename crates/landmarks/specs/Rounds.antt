@@ -36,7 +36,7 @@
 --   estimate, grounds  the answer to a problem and a record, and its landmark records; at least 0 and none where the record is no state
 use Rattle.std.specs.Prelude.{ℕ, zero, suc, ◌+◌, ◌-◌, ◌*◌, ◌/◌, ◌^◌, min, max, Bool, true, false, cond, not, ◌&&◌, ◌||◌, List, [], ◌∷◌, ◌++◌, map, length, replicate, Some, None, filter, Option, ◌==◌, nat_le, nat_lt, slice_index_or, slice_set}
 use Rattle.estimate.specs.declared.estimate.Estimate.{Estimate}
-use Rattle.estimate.specs.declared.estimate.Estimate.TheVariants.{AtLeast as at_least_lem, Dead as dead}
+use Rattle.estimate.specs.declared.estimate.Estimate.TheVariants.{AtLeast as at_least, Dead as dead}
 use Rattle.landmarks.specs.declared.Ground.{Ground}
 use Rattle.tables.specs.Problem.{Problem}
 use Rattle.task.specs.States.{is_state}
@@ -292,14 +292,14 @@ outcome rx = rounds rx (pairs rx.actions + 1) 1 0 (full_costs rx.actions)
 
 abbrev pub told : Outcome → Estimate
 told Dead = dead
-told (Found t gs) = at_least_lem (min (10 ^ 12) (ceil_div t 5040))
+told (Found t gs) = at_least (min (10 ^ 12) (ceil_div t 5040))
 
 abbrev pub listed : Outcome → List Ground
 listed Dead = []
 listed (Found t gs) = gs
 
 unfoldable pub estimate : Problem → State → Estimate
-estimate p s = cond (is_state p s) (told (outcome (relaxed p s))) (at_least_lem 0)
+estimate p s = cond (is_state p s) (told (outcome (relaxed p s))) (at_least 0)
 
 unfoldable pub grounds : Problem → State → List Ground
 grounds p s = cond (is_state p s) (listed (outcome (relaxed p s))) []

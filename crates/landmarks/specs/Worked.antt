@@ -12,7 +12,7 @@ use Rattle.tables.specs.declared.Move.{Move}
 use Rattle.landmarks.specs.Rounds.{estimate, grounds}
 use Rattle.landmarks.specs.declared.Ground.{Ground}
 use Rattle.estimate.specs.declared.estimate.Estimate.{Estimate}
-use Rattle.estimate.specs.declared.estimate.Estimate.TheVariants.{Dead as dead, AtLeast as at_least_lem}
+use Rattle.estimate.specs.declared.estimate.Estimate.TheVariants.{Dead as dead, AtLeast as at_least}
 
 abbrev pub link : ℕ → ℕ → ℤ → ℕ → Link
 link k s a n = record { kind = k; subject = s; amount = a; next = n }
@@ -45,8 +45,8 @@ abbrev pub ground_of : ℕ → ℕ → ℕ → ℕ → Ground
 ground_of k w m c = record { round = k; weight = w; number = m; charge = c }
 
 pub record Worked : Type 0 where
-  pub pads_answer : estimate pads (start_state pads) ≡ at_least_lem 7
+  pub pads_answer : estimate pads (start_state pads) ≡ at_least 7
   pub pads_records : grounds pads (start_state pads) ≡ ground_of 1 35280 1 25200 ∷ ground_of 1 35280 2 10080 ∷ []
   pub no_pads_answer : estimate no_pads (start_state no_pads) ≡ dead
-  pub climb_answer : estimate climb (start_state climb) ≡ at_least_lem 55
+  pub climb_answer : estimate climb (start_state climb) ≡ at_least 55
   pub climb_records : grounds climb (start_state climb) ≡ ground_of 1 50400 1 5040 ∷ ground_of 1 50400 2 5040 ∷ ground_of 2 226800 1 45360 ∷ []

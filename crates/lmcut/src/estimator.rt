@@ -4,7 +4,7 @@ ghost use Rattle.task.specs.Tasks.{problem};
 ghost use Rattle.landmarks.specs.Laws.{Landmarked, Explained};
 ghost use Rattle.landmarks.specs.Rounds.{estimate, grounds};
 ghost use Rattle.lmcut.specs.Recorded.{fault_number, fault_place, recorded, record_buffer};
-ghost use Rattle.landmarks.proofs.Soundness.{estimate_sound};
+ghost use Rattle.landmarks.proofs.Soundness.{estimate_claims};
 ghost use Rattle.lmcut.specs.Answering.{none_estimate};
 
 use crate::prepare::*;
@@ -51,7 +51,7 @@ impl GroundsFault {
 impl Estimator for LmCut {
     ghost answer = { λ _. estimate };
 
-    ghost sound = { λ e p s a i. estimate_sound p a s };
+    ghost sound = { λ e p s a i. estimate_claims p a s };
 
     ghost plain = { λ e p s i. none_estimate p s i };
 
