@@ -7,7 +7,7 @@ mod samples;
 use crate::samples::*;
 use estimate::estimate::Estimate;
 use estimate::estimator::Estimator;
-use lmcut::estimator::*;
+use lmcut_words::estimator::*;
 use std::env;
 use std::time::Instant;
 use tables::*;

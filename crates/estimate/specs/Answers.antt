@@ -3,7 +3,7 @@
 --   cheapest      the cost of the cheapest move; no cost passes 10,000
 --   floor_answer  0 where the goal holds, else the cost of the cheapest move, or dead if there is none; 0 at a record that is
 --                 no state
-use Rattle.std.specs.Prelude.{ℕ, min, Bool, cond, List, length, fold, ◌==◌, unsigned_abs}
+use Rattle.std.specs.Prelude.{ℕ, min, cond, List, length, fold, ◌==◌, unsigned_abs}
 use Rattle.estimate.specs.declared.estimate.Estimate.{Estimate}
 use Rattle.estimate.specs.declared.estimate.Estimate.TheVariants.{AtLeast, Dead}
 use Rattle.tables.specs.Problem.{Problem}

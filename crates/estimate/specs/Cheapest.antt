@@ -1,15 +1,14 @@
 -- A plan from a state where the goal fails is not empty, so it pays at least for the cheapest move.
-use Rattle.std.specs.Prelude.{◌≡◌, ℕ, zero, suc, ◌+◌, ◌-◌, ◌<◌, ◌≤◌, min, Bool, true, false, cond, List, [], ◌∷◌, length, Some, None, fold, Option, ◌==◌, nat_le, slice_index_or, unsigned_abs, refl}
+use Rattle.std.specs.Prelude.{◌≡◌, ℕ, zero, suc, ◌+◌, ◌-◌, ◌<◌, ◌≤◌, min, true, false, List, [], ◌∷◌, length, Some, None, fold, Option, ◌==◌, nat_le, slice_index_or, unsigned_abs, refl}
 use Rattle.std.proofs.Common.{sym, ◌∙◌, ap, subst, arith}
 use Rattle.std.proofs.lemmas.Bool.{true≢false, and_parts, leb-true, eqb-true, cond-true, cond-false, cond_both}
 use Rattle.estimate.specs.Answers.{cheapest, floor_answer}
-use Rattle.estimate.specs.Estimates.{Claims, most}
-use Rattle.estimate.specs.declared.estimate.Estimate.{Estimate}
+use Rattle.estimate.specs.Estimates.{Claims}
 use Rattle.estimate.specs.declared.estimate.Estimate.TheVariants.{AtLeast, Dead}
 use Rattle.tables.specs.Problem.{Problem}
 use Rattle.tables.specs.declared.Move.{Move}
 use Rattle.task.specs.Plans.{cost_of, and_then, after, PlanFrom, cost, is_move}
-use Rattle.task.specs.States.{is_state, goal_holds, result_of, move_at}
+use Rattle.task.specs.States.{is_state, goal_holds, result_of}
 use Rattle.task.specs.declared.state.State.{State}
 use Rattle.tables.proofs.Checked.{some_none, some_same}
 use Rattle.task.proofs.Judged.{result_is_move}

@@ -1,12 +1,9 @@
 -- How many rounds and landmark records there can be, and what stands in them.
-use Rattle.std.proofs.Common.{◌≡◌, ℕ, zero, suc, ◌+◌, ◌-◌, ◌*◌, ◌/◌, ◌<◌, ◌≤◌, max, Bool, true, false, cond, not, ◌&&◌, ◌||◌, eqb, leb, ◌⊎◌, List, [], ◌∷◌, ◌++◌, map, length, get_or, nat_abs, Some, None, sym, refl, ap, ◌∙◌, subst, ap₂, inl, inr, ⊎_elim, add-mul, one-mul, mul-zero, arith}
-use Rattle.std.specs.List.{AllByRecursion as All}
+use Rattle.std.proofs.Common.{◌≡◌, ℕ, zero, suc, ◌+◌, ◌-◌, ◌*◌, ◌<◌, ◌≤◌, Bool, true, false, cond, not, ◌&&◌, ◌||◌, eqb, leb, List, [], ◌∷◌, ◌++◌, map, length, get_or, nat_abs, Some, None, sym, refl, ap, ◌∙◌, subst, inl, ⊎_elim, add-mul, one-mul, arith}
 use Rattle.std.proofs.lemmas.Nat.{le-div, mul-le}
-use Rattle.std.proofs.ByRecursion.{All-append, All-weaker}
 use Rattle.std.proofs.lemmas.List.{length-append, length-map}
-use Rattle.std.proofs.lemmas.Bool.{cases_Bool, cases_eq, cases_lt, cond-true, cond-false, or_parts, eq-eqb, ne_eqb, eqb-false, leb-false, true≢false, false≢true}
+use Rattle.std.proofs.lemmas.Bool.{cases_Bool, cases_lt, or_parts, eqb-false, false≢true}
 use Rattle.tables.specs.Chains.{chain}
-use Rattle.tables.specs.Check.{accepted}
 use Rattle.task.specs.Meaning.{names}
 use Rattle.tables.specs.Problem.{Problem}
 use Rattle.tables.specs.Rules.{Keeps}
@@ -16,13 +13,13 @@ use Rattle.tables.specs.declared.Condition.{Condition}
 use Rattle.tables.specs.declared.Link.{Link}
 use Rattle.tables.specs.declared.Move.{Move}
 use Rattle.tables.proofs.Accepts.{decides_accepted}
-use Rattle.landmarks.specs.Relaxed.{Reach, Action, Relaxed, goal, shortfall, gain_of, raises, fact_reaches, condition_reaches, reaches_of, action_of, helper, relaxed}
-use Rattle.landmarks.specs.Rounds.{ceil_div, weight, Value, value_at, Crossing, cut_weight, charge, charge_of, crosses, grounds_of, Outcome, Dead, Found, noting, cap, unless_ended, settled, rounds, pairs, full_costs, outcome, listed, grounds}
+use Rattle.landmarks.specs.Relaxed.{Reach, Action, Relaxed, goal, shortfall, gain_of, raises, fact_reaches, condition_reaches, action_of, helper, relaxed}
+use Rattle.landmarks.specs.Rounds.{ceil_div, weight, Value, value_at, Crossing, charge_of, crosses, grounds_of, Outcome, Dead, Found, noting, cap, unless_ended, settled, rounds, pairs, full_costs, outcome, listed, grounds}
 use Rattle.landmarks.specs.declared.Ground.{Ground}
-use Rattle.landmarks.specs.Laws.{In, ReachFits, WellFormed, most_left, heaviest, Counts, CountsStand}
-use Rattle.landmarks.proofs.Orders.{all_in, in_get_or}
-use Rattle.landmarks.proofs.Cuts.{ceil_high, charge_high, cut_positive, crossing_is, loaded_reach, worth, cut_now, weight_now}
-use Rattle.landmarks.proofs.Landmarks.{no_crossing, charge_at, length_cut, charge_at_within, cut_at}
+use Rattle.landmarks.specs.Laws.{In, WellFormed, most_left, heaviest, Counts, CountsStand}
+use Rattle.landmarks.proofs.Orders.{in_get_or}
+use Rattle.landmarks.proofs.Cuts.{charge_high, cut_positive, crossing_is, loaded_reach, worth, cut_now, weight_now}
+use Rattle.landmarks.proofs.Landmarks.{no_crossing, length_cut, charge_at_within}
 use Rattle.landmarks.proofs.Totals.{rest_now, in_append}
 use Rattle.landmarks.proofs.Shapes.{shorts, relaxed_fits}
 use Rattle.landmarks.proofs.Follow.{length_actions, helper_action}

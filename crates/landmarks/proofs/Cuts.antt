@@ -1,15 +1,14 @@
 -- The cut of a round: it is not empty, its edges weigh something, and no charge exceeds what is left of a cost.
-use Rattle.std.proofs.Common.{◌≡◌, ℕ, zero, suc, ◌+◌, ◌-◌, ◌*◌, ◌/◌, ◌<◌, ◌≤◌, max, Bool, true, false, cond, not, ◌&&◌, ◌||◌, eqb, ltb, ◌⊎◌, List, [], ◌∷◌, ◌++◌, map, length, get_or, Some, None, filter, Option, sym, refl, ap, ◌∙◌, subst, ap₂, inl, inr, ⊎_elim, mul_comm, zero-add, div-mul-le_self, arith}
+use Rattle.std.proofs.Common.{◌≡◌, ℕ, zero, suc, ◌+◌, ◌-◌, ◌*◌, ◌/◌, ◌<◌, ◌≤◌, Bool, true, false, cond, not, ◌&&◌, ltb, List, [], ◌∷◌, Some, None, filter, Option, sym, refl, ap, ◌∙◌, subst, ap₂, inl, inr, ⊎_elim, mul_comm, div-mul-le_self, arith}
 use native.Mathlib.Nat.{lt-mul-div-succ}
-use Rattle.std.specs.List.{AllByRecursion as All}
 use Rattle.std.proofs.lemmas.Nat.{div_below, mul-le}
-use Rattle.std.proofs.lemmas.Bool.{cases_lt, cases_eq, cases_Bool, and_parts, or_cases, or_parts, not-true, cond-true, cond-false, true≢false, false≢true, eqb-true}
+use Rattle.std.proofs.lemmas.Bool.{cases_lt, cases_eq, cases_Bool, and_parts, or_cases, or_parts, not-true, cond-true, cond-false, false≢true}
 use Rattle.landmarks.specs.Relaxed.{Reach, Action, Relaxed, goal}
 use Rattle.landmarks.specs.Rounds.{ceil_div, weight, Value, smaller, larger, plus, above, Loaded, loaded, value_at, largest, best, values, beats, picked, chosen, Edges, edges_of, graph, in_zone, goal_zone, leads_in, starts, start_zone, Crossing, into, crossing, crossings, cut, lightest, lightest_of, or_zero, cut_weight, charge, charge_of}
 use Rattle.landmarks.specs.Laws.{In, ◌≼◌, Settles, ReachFits, WellFormed}
-use Rattle.landmarks.proofs.Orders.{in_map, map_in, some_same, some_none, ≼_refl, ≼_eq, ≼_trans, zero_≼, below_some, smaller_left, smaller_right, smaller_is, larger_least, plus_mono, plus_zero, plus_above, plus_some, above_true, above_false}
-use Rattle.landmarks.proofs.Sweeps.{largest_high, Offered, best_is, S, S-zero, S-open, S-past, first_at, values_settle}
-use Rattle.landmarks.proofs.Zones.{zone_inside, weightless_tells, weightless_from, leads_tells, leads_from, goal_in, goal_zone_keeps, goal_zone_closed, held_in, start_apart, start_closed}
+use Rattle.landmarks.proofs.Orders.{in_map, map_in, some_same, some_none, ≼_refl, ≼_eq, ≼_trans, zero_≼, below_some, smaller_left, smaller_right, smaller_is, larger_least, plus_zero, plus_some, above_true, above_false}
+use Rattle.landmarks.proofs.Sweeps.{largest_high, Offered, best_is, S, S-open, S-past, first_at, values_settle}
+use Rattle.landmarks.proofs.Zones.{weightless_tells, weightless_from, leads_tells, leads_from, goal_in, goal_zone_keeps, goal_zone_closed, held_in, start_apart, start_closed}
 
 -- ---- the chosen need
 

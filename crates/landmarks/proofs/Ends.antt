@@ -1,16 +1,16 @@
 -- The rounds end: each leaves fewer edges that weigh more than 0.
-use Rattle.std.proofs.Common.{◌≡◌, ℕ, zero, suc, ◌+◌, ◌-◌, ◌*◌, ◌/◌, ◌<◌, ◌≤◌, Bool, true, false, cond, not, ◌&&◌, ◌||◌, eqb, leb, ◌⊎◌, List, [], ◌∷◌, ◌++◌, map, length, get_or, drop, Some, None, sym, refl, ap, ◌∙◌, subst, ap₂, inl, inr, ⊎_elim, mul_comm, mul-le-mul_left, mul-one, mul-add, div-mul-le_self, arith}
+use Rattle.std.proofs.Common.{◌≡◌, ℕ, zero, suc, ◌+◌, ◌-◌, ◌*◌, ◌/◌, ◌<◌, ◌≤◌, Bool, true, false, cond, ◌||◌, eqb, leb, List, [], ◌∷◌, length, get_or, drop, Some, None, sym, refl, ap, ◌∙◌, subst, ap₂, inl, inr, ⊎_elim, mul_comm, mul-le-mul_left, mul-one, mul-add, div-mul-le_self, arith}
 use native.Mathlib.Nat.{mul-sub, lt-mul-div-succ, div-eq_of_lt}
 use Rattle.std.proofs.lemmas.Nat.{mul-le}
-use Rattle.std.proofs.lemmas.List.{get_or-drop, get_or_past}
-use Rattle.std.proofs.lemmas.Bool.{cases_lt, cases_eq, cond-true, cond-false, or_parts, eq-eqb, ne_eqb, eqb-true, eqb-false}
+use Rattle.std.proofs.lemmas.List.{get_or_past}
+use Rattle.std.proofs.lemmas.Bool.{cases_lt, cases_eq, cond-true, cond-false, or_parts, eq-eqb, ne_eqb, eqb-false}
 use Rattle.landmarks.specs.Relaxed.{Reach, Action, Relaxed, goal}
-use Rattle.landmarks.specs.Rounds.{ceil_div, weight, Value, value_at, Crossing, crossing, edges_of, cut_weight, charge_of, grounds_of, Outcome, Dead, Found, noting, cap, unless_ended, settled, rounds, pairs, full_costs, outcome}
+use Rattle.landmarks.specs.Rounds.{ceil_div, weight, Value, value_at, Crossing, crossing, edges_of, grounds_of, Outcome, noting, cap, unless_ended, settled, rounds, pairs, full_costs, outcome}
 use Rattle.landmarks.specs.declared.Ground.{Ground}
-use Rattle.landmarks.specs.Laws.{In, ReachFits, WellFormed, heavy, heavy_pairs, RoundsEnd, ValuesSettle, ValuesOnly, Cutting, CutStands}
+use Rattle.landmarks.specs.Laws.{In, WellFormed, heavy, heavy_pairs, RoundsEnd, ValuesSettle, ValuesOnly, CutStands}
 use Rattle.landmarks.proofs.Sweeps.{justified_is}
-use Rattle.landmarks.proofs.Cuts.{ceil_high, charge_high, charge_within, crossing_from, Lightest, cut_lightest, cut_positive, weight_least, loaded_reach, loaded_settles, actions, worth, near_goal, near_start, cut_now, weight_now}
-use Rattle.landmarks.proofs.Runs.{no_action, action_at, load_at, load_in}
+use Rattle.landmarks.proofs.Cuts.{ceil_high, charge_high, charge_within, crossing_from, cut_lightest, cut_positive, weight_least, loaded_reach, loaded_settles, worth, near_goal, near_start, cut_now, weight_now}
+use Rattle.landmarks.proofs.Runs.{no_action, load_at, load_in}
 use Rattle.landmarks.proofs.Landmarks.{no_crossing, charge_at, length_cut, cut_at}
 use Rattle.landmarks.proofs.Totals.{rest_now, length_rest, rest_at}
 

@@ -1,21 +1,20 @@
 -- The landmark records come in order, and their weights add up to the total.
-use Rattle.std.proofs.Common.{◌≡◌, ℕ, zero, suc, ◌+◌, ◌-◌, ◌*◌, ◌^◌, ◌<◌, ◌≤◌, min, Bool, true, false, cond, not, ◌&&◌, ◌||◌, eqb, leb, ◌⊎◌, List, [], ◌∷◌, ◌++◌, map, length, get_or, Some, None, sym, refl, ap, ◌∙◌, subst, ap₂, inl, inr, ⊎_elim, arith}
+use Rattle.std.proofs.Common.{◌≡◌, ℕ, zero, suc, ◌+◌, ◌^◌, ◌<◌, ◌≤◌, min, Bool, true, false, cond, ◌||◌, eqb, leb, List, [], ◌∷◌, ◌++◌, Some, None, sym, refl, ap, ◌∙◌, subst, inl, inr, ⊎_elim, arith}
 use Rattle.std.specs.List.{AllByRecursion as All}
 use Rattle.std.proofs.ByRecursion.{All-append, All-weaker}
-use Rattle.std.proofs.lemmas.Bool.{cases_Bool, cond-true, cond-false, or_parts, eq-eqb, ne_eqb, eqb-false, true≢false, false≢true}
-use Rattle.tables.specs.Check.{accepted}
+use Rattle.std.proofs.lemmas.Bool.{cases_Bool, cond-true, cond-false, or_parts, eq-eqb, ne_eqb, eqb-false, true≢false}
 use Rattle.tables.specs.Problem.{Problem}
 use Rattle.tables.specs.Rules.{Keeps}
 use Rattle.task.specs.States.{is_state}
 use Rattle.task.specs.declared.state.State.{State}
 use Rattle.tables.proofs.Accepts.{decides_accepted}
-use Rattle.landmarks.specs.Relaxed.{Reach, Action, Relaxed, goal, relaxed}
-use Rattle.landmarks.specs.Rounds.{ceil_div, Value, value_at, Crossing, cut_weight, charge_of, crosses, grounds_of, Outcome, Dead, Found, noting, cap, unless_ended, settled, rounds, pairs, full_costs, outcome, told, listed, estimate, grounds}
+use Rattle.landmarks.specs.Relaxed.{Reach, Relaxed, goal, relaxed}
+use Rattle.landmarks.specs.Rounds.{ceil_div, Value, value_at, Crossing, charge_of, crosses, grounds_of, Outcome, Dead, Found, noting, cap, unless_ended, settled, rounds, pairs, full_costs, outcome, told, listed, estimate, grounds}
 use Rattle.landmarks.specs.declared.Ground.{Ground}
 use Rattle.estimate.specs.declared.estimate.Estimate.{Estimate}
 use Rattle.estimate.specs.declared.estimate.Estimate.TheVariants.{AtLeast as at_least, Dead as dead}
 use Rattle.landmarks.specs.Laws.{In, WellFormed, Before, Ordered, weights_from, weights, Explained, GroundsExplain}
-use Rattle.landmarks.proofs.Cuts.{Lightest, cut_lightest, worth, cut_now, weight_now}
+use Rattle.landmarks.proofs.Cuts.{cut_lightest, worth, cut_now, weight_now}
 use Rattle.landmarks.proofs.Totals.{rest_now}
 use Rattle.landmarks.proofs.Shapes.{shorts, relaxed_fits}
 

@@ -1,30 +1,28 @@
 -- Plans are runs of the relaxed task: what holds after a list of moves is covered by them.
-use Rattle.std.proofs.Common.{◌≡◌, ℕ, zero, suc, ◌+◌, ◌-◌, ◌*◌, ◌<◌, ◌≤◌, Bool, true, false, cond, not, ◌&&◌, ◌||◌, eqb, ltb, leb, ◌⊎◌, List, [], ◌∷◌, ◌++◌, map, length, get_or, ℤ, pos, negsuc, ◌+ℤ◌, ◌-ℤ◌, ◌*ℤ◌, neg_ℤ, nat_abs, ◌≤ℤ◌, Some, None, fold, Option, sym, refl, ap, ◌∙◌, subst, ap₂, inl, inr, ⊎_elim, arith}
-use lib.IntN.{+ℤ_assoc, suc_ℤ, pred_ℤ, +ℤ_idr, +ℤ-suc_ℤ, +ℤ-pred_ℤ, suc_ℤ-*ℤ, pred_ℤ-*ℤ, zero-*ℤ, *ℤ_comm}
+use Rattle.std.proofs.Common.{◌≡◌, ℕ, zero, suc, ◌+◌, ◌-◌, ◌<◌, ◌≤◌, Bool, true, false, cond, not, ◌&&◌, eqb, ◌⊎◌, List, [], ◌∷◌, ◌++◌, map, length, get_or, ℤ, pos, negsuc, ◌+ℤ◌, ◌-ℤ◌, ◌*ℤ◌, neg_ℤ, nat_abs, ◌≤ℤ◌, Some, None, fold, Option, sym, refl, ap, ◌∙◌, subst, ap₂, inl, inr, ⊎_elim, arith}
+use lib.IntN.{+ℤ_assoc, +ℤ_idr, +ℤ-suc_ℤ, +ℤ-pred_ℤ, suc_ℤ-*ℤ, pred_ℤ-*ℤ, zero-*ℤ, *ℤ_comm}
 use lib.Signed.{le_z}
 use Rattle.std.specs.List.{AllByRecursion as All}
 use Rattle.std.proofs.ByRecursion.{All-weaker}
 use Rattle.std.proofs.lemmas.Int.{ints}
 use Rattle.std.proofs.lemmas.List.{get_or-map, length-map, get_or_append_left, get_or-append_right, length-append}
-use Rattle.std.proofs.lemmas.Bool.{cases_lt, cases_eq, cases_Bool, and_parts, and_from, or_cases, not-true, not_from_false, cond-true, cond-false, cond_both, eqb-true, eqb-false, eq-eqb, ne_eqb, true≢false, false≢true}
+use Rattle.std.proofs.lemmas.Bool.{cases_Bool, and_parts, and_from, or_cases, not_from_false, cond-true, cond-false, eqb-true, eqb-false, eq-eqb, ne_eqb}
 use Rattle.tables.specs.Chains.{chain}
-use Rattle.task.specs.Meaning.{names, change, effects_of, Allows, Follows, MovesMean}
+use Rattle.task.specs.Meaning.{names, change, effects_of, Follows}
 use Rattle.task.specs.Plans.{and_then, after}
 use Rattle.tables.specs.Problem.{Problem}
-use Rattle.tables.specs.Rules.{LinkFits, ChainKeeps, ConditionKeeps, MoveKeeps, Keeps}
+use Rattle.tables.specs.Rules.{LinkFits, ConditionKeeps, Keeps}
 use Rattle.task.specs.States.{fact_holds, value_of, mark, add_term, total, condition_holds, condition_at, need_holds, all_hold, goal_holds, is_state, move_at, allowed, result_of}
 use Rattle.task.specs.declared.state.State.{State}
 use Rattle.tables.specs.declared.Condition.{Condition}
 use Rattle.tables.specs.declared.Link.{Link}
-use Rattle.tables.specs.declared.Move.{Move}
 use Rattle.tables.specs.declared.Role.TheVariants.{Terms, Needs}
 use Rattle.tables.proofs.Accepts.{decides_int_le}
 use Rattle.task.proofs.Along.{keeps_fit, term_of}
 use Rattle.tables.proofs.Checked.{under_some}
 use Rattle.task.proofs.Keep.{moves_mean}
-use Rattle.landmarks.specs.Relaxed.{Reach, Action, Relaxed, goal, shortfall, add_gain, gain_of, node_of, needs_of, fact_reaches, raises, condition_reaches, reaches_of, action_of, helper, nodes_hold, relaxed}
-use Rattle.landmarks.specs.Rounds.{in_zone}
-use Rattle.landmarks.specs.Laws.{In, ReachFits, WellFormed}
+use Rattle.landmarks.specs.Relaxed.{Reach, Action, shortfall, add_gain, gain_of, node_of, fact_reaches, raises, condition_reaches, reaches_of, action_of, helper, relaxed}
+use Rattle.landmarks.specs.Laws.{In}
 use Rattle.landmarks.proofs.Orders.{all_in, in_map}
 use Rattle.landmarks.proofs.Runs.{no_action, action_at, gain_to, credit, Covered, Ready, RunFrom, CoveredAfter}
 use Rattle.landmarks.proofs.Shapes.{no_condition, shorts, condition_of, holds_fact, holds_condition, short_fact, short_condition, short_goal, fact_reach}

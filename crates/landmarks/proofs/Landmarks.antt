@@ -1,16 +1,16 @@
 -- The landmark of a round: every run that covers the goal is charged at least the weight of the cut.
-use Rattle.std.proofs.Common.{◌≡◌, ℕ, zero, suc, ◌+◌, ◌-◌, ◌*◌, ◌/◌, ◌<◌, ◌≤◌, max, Bool, true, false, cond, not, ◌&&◌, ◌||◌, eqb, leb, ◌⊎◌, List, [], ◌∷◌, ◌++◌, map, length, get_or, Some, None, Option, sym, refl, ap, ◌∙◌, subst, ap₂, inl, inr, ⊎_elim, mul_comm, mul-le-mul_left, mul-zero, mul-add, arith}
+use Rattle.std.proofs.Common.{◌≡◌, ℕ, ◌+◌, ◌*◌, ◌<◌, ◌≤◌, Bool, true, false, ◌&&◌, ◌||◌, leb, ◌⊎◌, List, [], ◌∷◌, length, get_or, Some, None, Option, sym, refl, ap, ◌∙◌, subst, inl, inr, ⊎_elim, mul_comm, mul-le-mul_left, mul-zero, mul-add, arith}
 use native.Mathlib.Nat.{le_of_mul-le-mul_left}
 use Rattle.std.specs.List.{AllByRecursion as All}
 use Rattle.std.proofs.lemmas.List.{get_or-map, length-map}
-use Rattle.std.proofs.lemmas.Bool.{cases_lt, cases_eq, cases_Bool, and_parts, and_from, or_cases, or_left, or_right, cond-true, cond-false, eqb-true, leb-true, le-leb, true≢false, false≢true}
-use Rattle.landmarks.specs.Relaxed.{Reach, Action, Relaxed, goal}
-use Rattle.landmarks.specs.Rounds.{ceil_div, weight, Value, plus, Loaded, loaded, value_at, largest, chosen, Edges, edges_of, in_zone, starts, Crossing, crossing, cut, charge, charge_of}
-use Rattle.landmarks.specs.Laws.{In, ◌≼◌, ReachFits, WellFormed}
+use Rattle.std.proofs.lemmas.Bool.{cases_Bool, and_parts, and_from, or_cases, or_left, or_right, leb-true, le-leb, true≢false}
+use Rattle.landmarks.specs.Relaxed.{Relaxed, goal}
+use Rattle.landmarks.specs.Rounds.{value_at, chosen, edges_of, in_zone, starts, Crossing, crossing, cut, charge_of}
+use Rattle.landmarks.specs.Laws.{In, WellFormed}
 use Rattle.landmarks.proofs.Orders.{map_in, in_get_or}
 use Rattle.landmarks.proofs.Zones.{held_in, start_closed, goal_in}
 use Rattle.landmarks.proofs.Cuts.{chosen_in, loaded_reach, ceil_high, crossing_in, charge_high, charge_within, actions, worth, drawn, near_goal, near_start, cut_now, weight_now, zones_apart}
-use Rattle.landmarks.proofs.Runs.{no_action, action_at, gain_to, credit, Covered, Ready, RunFrom, CoveredAfter, gain_cases, covered_first, covered_more, no_load, length_loaded, loaded_at, load_at, load_in, find_below}
+use Rattle.landmarks.proofs.Runs.{action_at, gain_to, credit, Covered, RunFrom, CoveredAfter, gain_cases, covered_first, covered_more, no_load, length_loaded, loaded_at, load_at, load_in, find_below}
 
 abbrev pub no_crossing : Crossing
 no_crossing = record { left = 0; edges = [] }

@@ -1,17 +1,12 @@
 -- Runs of a relaxed task: lists of actions, by place, each of whose needs is covered by the actions before it. A node is covered
 -- where it holds, or where the gains towards it add up to its shortfall. Every run that covers the goal pays for each cut.
-use Rattle.std.proofs.Common.{◌≡◌, ℕ, zero, suc, ◌+◌, ◌-◌, ◌*◌, ◌/◌, ◌<◌, ◌≤◌, max, Bool, true, false, cond, not, ◌&&◌, ◌||◌, eqb, leb, ◌⊎◌, List, [], ◌∷◌, ◌++◌, map, length, get_or, Some, None, Option, sym, refl, ap, ◌∙◌, subst, ap₂, inl, inr, ⊎_elim, mul_comm, mul-le-mul_left, mul-zero, mul-add, arith}
-use native.Mathlib.Nat.{le_of_mul-le-mul_left}
-use Rattle.std.specs.List.{AllByRecursion as All}
-use Rattle.std.proofs.lemmas.List.{get_or-map, length-map}
+use Rattle.std.proofs.Common.{◌≡◌, ℕ, zero, suc, ◌+◌, ◌<◌, ◌≤◌, max, Bool, true, false, cond, eqb, ◌⊎◌, List, [], ◌∷◌, length, get_or, Some, refl, ap, ◌∙◌, subst, ap₂, inl, inr, ⊎_elim, arith}
 use Rattle.std.proofs.lemmas.Bool.{cases_lt, cases_eq, cases_Bool, and_parts, and_from, or_cases, or_left, or_right, cond-true, cond-false, eqb-true, leb-true, le-leb, true≢false, false≢true}
-use Rattle.landmarks.specs.Relaxed.{Reach, Action, Relaxed, goal}
+use Rattle.landmarks.specs.Relaxed.{Reach, Action, Relaxed}
 use Rattle.landmarks.specs.Rounds.{ceil_div, weight, Value, plus, Loaded, loaded, value_at, largest, chosen, Edges, edges_of, in_zone, starts, Crossing, crossing, cut, charge, charge_of}
-use Rattle.landmarks.specs.Laws.{In, ◌≼◌, ReachFits, WellFormed}
-use Rattle.landmarks.proofs.Orders.{in_get_or, some_same, some_none, below_some}
-use Rattle.landmarks.proofs.Sweeps.{largest_high}
-use Rattle.landmarks.proofs.Zones.{held_in, start_closed, goal_in}
-use Rattle.landmarks.proofs.Cuts.{chosen_in, loaded_reach, loaded_settles, ceil_high, crossing_in, charge_high, actions, worth, drawn, near_goal, near_start, cut_now, weight_now, zones_apart}
+use Rattle.landmarks.specs.Laws.{In, ◌≼◌, WellFormed}
+use Rattle.landmarks.proofs.Orders.{in_get_or, below_some}
+use Rattle.landmarks.proofs.Cuts.{loaded_settles, actions, worth}
 
 abbrev pub no_action : Action
 no_action = record { cost = 0; needs = []; reaches = [] }

@@ -1,10 +1,10 @@
 -- The rounds look at what an action needs as a set: two relaxed tasks whose actions need the same nodes have one outcome.
-use Rattle.std.proofs.Common.{◌≡◌, ℕ, zero, suc, ◌+◌, ◌-◌, ◌*◌, Bool, true, false, cond, not, ◌&&◌, ◌||◌, ltb, ◌⊎◌, List, [], ◌∷◌, map, length, set, replicate, Some, None, Option, sym, refl, ap, ◌∙◌, subst, ap₂, inl, inr, ⊎_elim, arith}
+use Rattle.std.proofs.Common.{◌≡◌, ℕ, zero, suc, ◌+◌, ◌-◌, ◌*◌, Bool, true, false, cond, not, ◌&&◌, ◌||◌, ltb, List, [], ◌∷◌, length, set, replicate, Some, None, Option, sym, refl, ap, ◌∙◌, subst, ap₂, ⊎_elim, arith}
 use Rattle.std.proofs.lemmas.Bool.{true≢false, cases_Bool}
 use Rattle.std.proofs.lemmas.Bool.Decides.{nat_tests}
-use Rattle.landmarks.specs.Laws.{In, ◌≼◌}
+use Rattle.landmarks.specs.Laws.{In}
 use Rattle.landmarks.specs.Relaxed.{Reach, Action, Relaxed, goal}
-use Rattle.landmarks.specs.Rounds.{Value, repeated, above, Loaded, loaded, value_at, smaller, largest, offer, best, swept_from, sweep, first_values, values, beats, picked, chosen, Edges, edges_of, graph, goal_turn, goal_zone, start_turn, start_zone, Crossing, crossings, cut, cut_in, cut_weight, left_after, grounds_of, noting, settled, Outcome, rounds, pairs, full_costs, outcome}
+use Rattle.landmarks.specs.Rounds.{Value, repeated, above, Loaded, loaded, value_at, smaller, largest, offer, best, swept_from, sweep, first_values, values, beats, picked, chosen, Edges, graph, goal_turn, goal_zone, start_turn, start_zone, Crossing, crossings, cut, cut_in, cut_weight, left_after, grounds_of, noting, settled, Outcome, rounds, pairs, full_costs, outcome}
 use Rattle.landmarks.proofs.Cuts.{chosen_in, chosen_ground}
 use Rattle.landmarks.proofs.Orders.{≼_antisym, some_same}
 use Rattle.landmarks.proofs.Sweeps.{largest_high, largest_least}

@@ -1,10 +1,9 @@
 -- The relaxed task of an accepted problem and a state is well formed.
-use Rattle.std.proofs.Common.{◌≡◌, ℕ, zero, suc, ◌+◌, ◌-◌, ◌*◌, ◌<◌, ◌≤◌, Bool, true, false, cond, not, ◌&&◌, ◌||◌, eqb, ltb, leb, ◌⊎◌, List, [], ◌∷◌, ◌++◌, map, length, get_or, replicate, ℤ, pos, ◌+ℤ◌, ◌-ℤ◌, nat_abs, ◌≤ℤ◌, sym, refl, ap, ◌∙◌, subst, ap₂, inl, inr, ⊎_elim, zero-add, arith}
+use Rattle.std.proofs.Common.{◌≡◌, ℕ, zero, suc, ◌+◌, ◌-◌, ◌<◌, ◌≤◌, Bool, true, false, cond, not, ◌&&◌, eqb, List, [], ◌∷◌, ◌++◌, map, length, get_or, replicate, ℤ, pos, ◌-ℤ◌, nat_abs, sym, refl, ap, ◌∙◌, subst, inl, ⊎_elim, zero-add, arith}
 use lib.Signed.{le_z}
-use Rattle.std.specs.List.{AllByRecursion as All}
 use Rattle.std.proofs.lemmas.Int.{ints}
-use Rattle.std.proofs.lemmas.List.{get_or-map, length-map, length-append, length-replicate, get_or_append_left, get_or-append_right, get_or_past, get_or-replicate, get_or_default}
-use Rattle.std.proofs.lemmas.Bool.{cases_lt, cases_eq, cases_Bool, and_parts, and_from, not-true, cond-true, cond-false, cond_both, eqb-true, eqb-false, eq-eqb, ne_eqb, true≢false, false≢true}
+use Rattle.std.proofs.lemmas.List.{get_or-map, length-map, length-append, length-replicate, get_or_append_left, get_or-append_right, get_or_past, get_or-replicate}
+use Rattle.std.proofs.lemmas.Bool.{cases_lt, cases_eq, and_parts, not-true, cond_both, eqb-true, eqb-false}
 use Rattle.tables.specs.Chains.{chain}
 use Rattle.task.specs.Meaning.{names}
 use Rattle.tables.specs.Problem.{Problem}
@@ -13,11 +12,10 @@ use Rattle.task.specs.States.{fact_holds, mark, total, condition_holds}
 use Rattle.task.specs.declared.state.State.{State}
 use Rattle.tables.specs.declared.Condition.{Condition}
 use Rattle.tables.specs.declared.Link.{Link}
-use Rattle.tables.specs.declared.Move.{Move}
 use Rattle.tables.specs.declared.Role.TheVariants.{Needs}
 use Rattle.tables.proofs.Accepts.{decides_accepted, decides_int_le}
 use Rattle.task.proofs.Along.{keeps_fit}
-use Rattle.landmarks.specs.Relaxed.{Reach, Action, Relaxed, goal, shortfall, gain_of, node_of, needs_of, fact_reaches, raises, condition_reaches, reaches_of, action_of, helper, facts_hold, nodes_hold, relaxed}
+use Rattle.landmarks.specs.Relaxed.{Reach, Action, shortfall, gain_of, node_of, needs_of, fact_reaches, raises, condition_reaches, reaches_of, action_of, helper, facts_hold, nodes_hold, relaxed}
 use Rattle.landmarks.specs.Rounds.{in_zone}
 use Rattle.landmarks.specs.Laws.{In, ReachFits, WellFormed, RelaxedFits}
 use Rattle.landmarks.proofs.Orders.{all_in, in_map}

@@ -1,14 +1,14 @@
 -- How large the numbers of a question can be.
-use Rattle.std.proofs.Common.{◌≡◌, ℕ, zero, suc, ◌+◌, ◌-◌, ◌*◌, ◌/◌, ◌<◌, ◌≤◌, Bool, true, false, cond, not, ◌&&◌, ◌||◌, eqb, leb, ◌⊎◌, List, [], ◌∷◌, ◌++◌, map, length, get_or, ℤ, pos, ◌+ℤ◌, ◌-ℤ◌, ◌*ℤ◌, nat_abs, Some, None, fold, Option, sym, refl, ap, ◌∙◌, subst, ap₂, inl, inr, ⊎_elim, add-mul, mul-le-mul_left, one-mul, div-le_self, arith}
+use Rattle.std.proofs.Common.{◌≡◌, ℕ, zero, suc, ◌+◌, ◌*◌, ◌<◌, ◌≤◌, Bool, true, false, cond, ◌&&◌, ◌||◌, eqb, leb, List, [], ◌∷◌, map, length, get_or, ℤ, pos, ◌+ℤ◌, ◌-ℤ◌, ◌*ℤ◌, nat_abs, Some, None, fold, sym, refl, ap, ◌∙◌, subst, inl, inr, ⊎_elim, add-mul, one-mul, div-le_self, arith}
 use lib.IntN.{+ℤ_idr}
 use Rattle.std.specs.List.{AllByRecursion as All}
 use Rattle.std.proofs.lemmas.Nat.{mul-le}
 use Rattle.std.proofs.ByRecursion.{All-weaker}
 use Rattle.std.proofs.lemmas.Int.{ints}
 use Rattle.std.proofs.lemmas.List.{get_or-map, length-map, get_or_past}
-use Rattle.std.proofs.lemmas.Bool.{cases_lt, cases_eq, cases_Bool, cond-true, cond-false, cond_both, and_parts, or_parts, or_left, leb-false, eqb-true, eq-eqb, ne_eqb}
+use Rattle.std.proofs.lemmas.Bool.{cases_lt, cases_Bool, cond-true, cond-false, or_parts, or_left, leb-false, eqb-true, eq-eqb}
 use Rattle.tables.specs.Chains.{chain}
-use Rattle.tables.specs.Check.{names_quantity, accepted}
+use Rattle.tables.specs.Check.{names_quantity}
 use Rattle.task.specs.Meaning.{change}
 use Rattle.tables.specs.Problem.{Problem}
 use Rattle.tables.specs.Rules.{LinkFits, ChainKeeps, ConditionKeeps, MoveKeeps, Keeps, quantities_of, Once}
@@ -17,19 +17,19 @@ use Rattle.task.specs.declared.state.State.{State}
 use Rattle.tables.specs.declared.Condition.{Condition}
 use Rattle.tables.specs.declared.Link.{Link}
 use Rattle.tables.specs.declared.Move.{Move}
-use Rattle.tables.specs.declared.Role.TheVariants.{Terms, Needs, Effects}
+use Rattle.tables.specs.declared.Role.TheVariants.{Terms, Effects}
 use Rattle.tables.proofs.Accepts.{decides_accepted, decides_names}
 use Rattle.task.proofs.Along.{keeps_fit, quantity_holds, range_size}
 use Rattle.task.proofs.Changes.{unnamed}
 use Rattle.task.proofs.Ints.{nat_abs_add, product_size}
 use Rattle.task.proofs.Keep.{IsState, state_is, state_range}
-use Rattle.landmarks.specs.Relaxed.{Reach, Action, Relaxed, goal, shortfall, add_gain, gain_of, reaches_of, fact_reaches, condition_reaches, action_of, helper, relaxed}
-use Rattle.landmarks.specs.Rounds.{weight, Value, plus, Loaded, loaded, value_at, largest, values, in_zone, Crossing, lightest_of, or_zero, cut, cut_weight, charge_of, grounds_of, Outcome, Dead, Found, noting, cap, unless_ended, settled, rounds, pairs, full_costs, outcome}
+use Rattle.landmarks.specs.Relaxed.{Reach, Action, Relaxed, goal, shortfall, gain_of, reaches_of, fact_reaches, condition_reaches, action_of, helper, relaxed}
+use Rattle.landmarks.specs.Rounds.{weight, Value, Loaded, loaded, value_at, largest, values, in_zone, lightest_of, or_zero, grounds_of, Outcome, Dead, Found, noting, cap, unless_ended, settled, rounds, pairs, full_costs, outcome}
 use Rattle.landmarks.specs.declared.Ground.{Ground}
-use Rattle.landmarks.specs.Laws.{In, ◌≼◌, WellFormed, most_left, heaviest, Sizes, SizesStand}
+use Rattle.landmarks.specs.Laws.{In, ◌≼◌, WellFormed, most_left, heaviest, SizesStand}
 use Rattle.landmarks.proofs.Orders.{all_in, in_map, in_get_or, some_same, some_none, below_some, plus_some}
 use Rattle.landmarks.proofs.Sweeps.{pigeonhole, largest_high, largest_least, Offered, best_is, S, S-open, S-past, S-held, first_at}
-use Rattle.landmarks.proofs.Cuts.{loaded_from, crossing_is, Lightest, lightest_is, actions, worth, cut_now, weight_now}
+use Rattle.landmarks.proofs.Cuts.{loaded_from, crossing_is, lightest_is, actions, worth, cut_now, weight_now}
 use Rattle.landmarks.proofs.Totals.{in_append, rest_now, length_rest, rest_at}
 use Rattle.landmarks.proofs.Shapes.{shorts, relaxed_fits, fact_reach, condition_reach, no_condition}
 

@@ -1,8 +1,8 @@
 -- LM-cut is sound: its estimate is a lower bound on the cost of every plan, dead only where there is none, and its landmark records stand.
-use Rattle.std.proofs.Common.{◌≡◌, ℕ, zero, suc, ◌+◌, ◌-◌, ◌*◌, ◌^◌, ◌<◌, ◌≤◌, min, Bool, true, false, cond, not, ◌&&◌, ◌||◌, eqb, ltb, leb, ◌⊎◌, List, [], ◌∷◌, ◌++◌, map, length, get_or, sym, refl, ap, ◌∙◌, subst, ap₂, inl, inr, ⊎_elim, mul-zero, mul-add, arith}
+use Rattle.std.proofs.Common.{◌≡◌, ℕ, ◌+◌, ◌-◌, ◌*◌, ◌<◌, ◌≤◌, Bool, true, false, cond, ◌&&◌, eqb, List, [], ◌∷◌, length, get_or, sym, refl, ap, ◌∙◌, subst, ⊎_elim, mul-add, arith}
 use Rattle.std.specs.List.{AllByRecursion as All}
 use Rattle.std.proofs.lemmas.List.{get_or-map, length-map}
-use Rattle.std.proofs.lemmas.Bool.{cases_Bool, cond-true, cond-false, and_parts}
+use Rattle.std.proofs.lemmas.Bool.{cases_Bool, cond-true, cond-false}
 use Rattle.tables.specs.Check.{accepted}
 use Rattle.task.specs.Plans.{cost_of, cost, PlanFrom}
 use Rattle.tables.specs.Problem.{Problem}
@@ -10,18 +10,18 @@ use Rattle.tables.specs.Rules.{Keeps}
 use Rattle.task.specs.States.{is_state}
 use Rattle.task.specs.declared.state.State.{State}
 use Rattle.tables.proofs.Accepts.{decides_accepted}
-use Rattle.landmarks.specs.Relaxed.{Action, Relaxed, goal, relaxed}
-use Rattle.landmarks.specs.Rounds.{ceil_div, Outcome, Dead, Found, rounds, pairs, full_costs, outcome, told, listed, estimate, grounds}
+use Rattle.landmarks.specs.Relaxed.{Action, goal, relaxed}
+use Rattle.landmarks.specs.Rounds.{Outcome, Dead, Found, pairs, full_costs, outcome, told, listed, estimate, grounds}
 use Rattle.landmarks.specs.declared.Ground.{Ground}
 use Rattle.estimate.specs.declared.estimate.Estimate.{Estimate}
 use Rattle.estimate.specs.declared.estimate.Estimate.TheVariants.{AtLeast as at_least, Dead as dead}
-use Rattle.landmarks.specs.Laws.{In, WellFormed, charged_in, charged_to, charged_along, Landmarked, Sound, EstimateSound, GroundsStand}
+use Rattle.landmarks.specs.Laws.{In, charged_in, charged_to, charged_along, Landmarked, Sound, EstimateSound, GroundsStand}
 use Rattle.estimate.specs.Estimates.{Claims}
 use Rattle.landmarks.proofs.Cuts.{ceil_least}
-use Rattle.landmarks.proofs.Runs.{no_action, action_at, RunFrom, CoveredAfter}
-use Rattle.landmarks.proofs.Totals.{spent, charged_run, Afforded, Affordable, rounds_afford, WithinCosts, rounds_within}
+use Rattle.landmarks.proofs.Runs.{no_action, action_at, CoveredAfter}
+use Rattle.landmarks.proofs.Totals.{spent, charged_run, Affordable, rounds_afford, WithinCosts, rounds_within}
 use Rattle.landmarks.proofs.Shapes.{shorts, relaxed_fits}
-use Rattle.landmarks.proofs.Follow.{length_actions, move_action, helper_action, places, Run, plan_runs}
+use Rattle.landmarks.proofs.Follow.{length_actions, move_action, helper_action, places, plan_runs}
 
 module _ (p : Problem) (s : State) where
   abbrev costs : List ℕ

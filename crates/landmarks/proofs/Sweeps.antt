@@ -1,14 +1,14 @@
 -- The sweeps fall, and settle after as many as there are nodes; and the settled values are the only justified valuation.
-use Rattle.std.proofs.Common.{◌≡◌, ℕ, zero, suc, ◌+◌, ◌-◌, ◌*◌, ◌<◌, ◌≤◌, min, max, Bool, true, false, cond, not, ◌||◌, eqb, ltb, ◌⊎◌, List, [], ◌∷◌, ◌++◌, map, length, get_or, Some, None, filter, Option, sym, refl, ap, ◌∙◌, subst, inl, inr, ⊎_elim, zero-add, arith}
+use Rattle.std.proofs.Common.{◌≡◌, ℕ, zero, suc, ◌+◌, ◌-◌, ◌<◌, ◌≤◌, Bool, true, false, cond, not, eqb, ◌⊎◌, List, [], ◌∷◌, length, get_or, Some, None, filter, sym, refl, ap, ◌∙◌, subst, inl, inr, ⊎_elim, zero-add, arith}
 use Rattle.std.specs.List.{AllByRecursion as All}
 use Rattle.std.proofs.ByRecursion.{All-weaker}
 use Rattle.std.proofs.lemmas.List.{get_or_past, get_or-map, length-map, same_lists, get_or_default}
 use Rattle.std.proofs.lemmas.Bool.{cases_lt, cases_eq, cases_Bool, eqb-true, eq-eqb, ne_eqb, cond-true, cond-false, cond_both, true≢false, false≢true}
 use Rattle.tables.specs.Rules.{Once}
-use Rattle.landmarks.specs.Relaxed.{Reach, Action, Relaxed}
+use Rattle.landmarks.specs.Relaxed.{Reach, Relaxed}
 use Rattle.landmarks.specs.Rounds.{repeated, weight, Value, smaller, larger, plus, Loaded, value_at, largest, offer, best, swept_from, sweep, first_values, values, in_zone}
-use Rattle.landmarks.specs.Laws.{In, ◌≼◌, ◌≺◌, Settles, Supported, Justified}
-use Rattle.landmarks.proofs.Orders.{all_in, some_same, some_none, ≼_refl, ≼_eq, ≼_trans, ≼_antisym, zero_≼, cases_≼, ≺_not, ≺_some, smaller_left, smaller_right, smaller_is, larger_left, larger_right, larger_least, plus_mono, plus_above, plus_some}
+use Rattle.landmarks.specs.Laws.{In, ◌≼◌, ◌≺◌, Settles, Justified}
+use Rattle.landmarks.proofs.Orders.{some_none, ≼_refl, ≼_eq, ≼_trans, ≼_antisym, zero_≼, cases_≼, ≺_not, ≺_some, smaller_left, smaller_right, smaller_is, larger_left, larger_right, larger_least, plus_mono, plus_above}
 
 -- ---- no more than n distinct numbers below n
 

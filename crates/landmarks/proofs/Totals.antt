@@ -1,14 +1,14 @@
 -- All rounds together: a run that covers the goal pays for the total, and no action is charged more than its cost.
-use Rattle.std.proofs.Common.{◌≡◌, ℕ, zero, suc, ◌+◌, ◌-◌, ◌*◌, ◌/◌, ◌<◌, ◌≤◌, max, Bool, true, false, cond, not, ◌&&◌, ◌||◌, eqb, leb, ◌⊎◌, List, [], ◌∷◌, ◌++◌, map, length, get_or, Some, None, Option, sym, refl, ap, ◌∙◌, subst, ap₂, inl, inr, ⊎_elim, arith}
+use Rattle.std.proofs.Common.{◌≡◌, ℕ, zero, suc, ◌+◌, ◌-◌, ◌<◌, ◌≤◌, Bool, true, false, cond, ◌&&◌, ◌||◌, eqb, leb, ◌⊎◌, List, [], ◌∷◌, ◌++◌, length, get_or, Some, None, sym, refl, ap, ◌∙◌, inl, inr, ⊎_elim, arith}
 use Rattle.std.specs.List.{AllByRecursion as All}
 use Rattle.std.proofs.lemmas.List.{get_or-map, length-map}
-use Rattle.std.proofs.lemmas.Bool.{cases_lt, cases_eq, cases_Bool, and_parts, and_from, and_right, or_cases, or_parts, cond-true, cond-false, eqb-true, eqb-false, eq-eqb, ne_eqb, true≢false, false≢true}
-use Rattle.landmarks.specs.Relaxed.{Reach, Action, Relaxed, goal}
-use Rattle.landmarks.specs.Rounds.{Value, Loaded, loaded, value_at, values, Crossing, cut, cut_weight, charge, charge_of, left_after, crosses, grounds_of, Outcome, Dead, Found, noting, cap, unless_ended, settled, rounds}
+use Rattle.std.proofs.lemmas.Bool.{and_from, or_parts, cond-true, cond-false, eqb-false, eq-eqb, ne_eqb, true≢false}
+use Rattle.landmarks.specs.Relaxed.{Reach, Relaxed, goal}
+use Rattle.landmarks.specs.Rounds.{Value, value_at, Crossing, charge, charge_of, left_after, crosses, grounds_of, Outcome, Dead, Found, noting, cap, unless_ended, settled, rounds}
 use Rattle.landmarks.specs.declared.Ground.{Ground}
 use Rattle.landmarks.specs.Laws.{In, WellFormed, charged_in, charged_to}
 use Rattle.landmarks.proofs.Orders.{some_none}
-use Rattle.landmarks.proofs.Cuts.{actions, worth, cut_now, weight_now}
+use Rattle.landmarks.proofs.Cuts.{worth, cut_now, weight_now}
 use Rattle.landmarks.proofs.Runs.{RunFrom, CoveredAfter, run_finite}
 use Rattle.landmarks.proofs.Landmarks.{no_crossing, charge_at, charged, length_cut, cut_at, charge_at_within, landmark}
 

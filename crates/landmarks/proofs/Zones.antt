@@ -1,11 +1,10 @@
 -- Zones: as many turns as there are nodes close them.
-use Rattle.std.proofs.Common.{◌≡◌, ℕ, zero, suc, ◌+◌, ◌-◌, ◌*◌, ◌<◌, ◌≤◌, Bool, true, false, cond, not, ◌&&◌, ◌||◌, eqb, ltb, ◌⊎◌, List, [], ◌∷◌, ◌++◌, map, length, get_or, set, replicate, Some, None, Option, sym, refl, ap, ◌∙◌, subst, inl, inr, ⊎_elim, zero-add, arith}
+use Rattle.std.proofs.Common.{◌≡◌, ℕ, zero, suc, ◌+◌, ◌<◌, ◌≤◌, Bool, true, false, cond, not, ◌&&◌, ◌||◌, eqb, ◌⊎◌, List, [], ◌∷◌, length, get_or, set, replicate, Some, None, Option, sym, refl, ap, ◌∙◌, subst, inl, inr, ⊎_elim, zero-add, arith}
 use Rattle.std.proofs.lemmas.List.{get_or_past, get_or-set_same, get_or-set_other, get_or-replicate, length-set, length-replicate, same_lists, get_or_default}
-use Rattle.std.proofs.lemmas.Bool.{cases_lt, cases_eq, cases_Bool, eqb-true, eq-eqb, ne_eqb, and_parts, and_from, or_cases, or_left, or_right, not-true, true≢false, false≢true}
-use Rattle.landmarks.specs.Relaxed.{Reach, Action, Relaxed, goal}
-use Rattle.landmarks.specs.Rounds.{repeated, weight, Value, Edges, in_zone, grow, is_node, weightless_into, leads_in, goal_turn, goal_zone, starts, runs_to, led_to, start_turn, start_zone}
-use Rattle.landmarks.specs.Laws.{In, GoalClosed, StartClosed, Within, GoalZoneOnly, StartZoneOnly}
-use Rattle.landmarks.proofs.Sweeps.{repeated_suc}
+use Rattle.std.proofs.lemmas.Bool.{cases_lt, cases_eq, eqb-true, eq-eqb, and_parts, and_from, or_cases, or_left, or_right, not-true, true≢false, false≢true}
+use Rattle.landmarks.specs.Relaxed.{Reach, Relaxed, goal}
+use Rattle.landmarks.specs.Rounds.{repeated, weight, Edges, in_zone, grow, is_node, weightless_into, leads_in, goal_zone, starts, runs_to, led_to, start_zone}
+use Rattle.landmarks.specs.Laws.{In, Within, GoalZoneOnly, StartZoneOnly}
 
 -- ---- what a turn adds
 

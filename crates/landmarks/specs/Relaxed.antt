@@ -16,7 +16,7 @@
 --   facts_hold         which of n facts from k hold
 --   nodes_hold         which nodes hold in a state; the goal node does not
 --   relaxed            the relaxed task of a problem and a state
-use Rattle.std.specs.Prelude.{ℕ, zero, suc, ◌+◌, ◌-◌, Bool, true, false, cond, not, ◌&&◌, List, [], ◌∷◌, ◌++◌, map, length, ℤ, pos, ◌+ℤ◌, ◌-ℤ◌, ◌*ℤ◌, fold, ◌==◌, int_le, unsigned_abs}
+use Rattle.std.specs.Prelude.{ℕ, zero, suc, ◌+◌, ◌-◌, Bool, false, cond, not, ◌&&◌, List, [], ◌∷◌, ◌++◌, map, length, ℤ, pos, ◌+ℤ◌, ◌-ℤ◌, ◌*ℤ◌, fold, ◌==◌, int_le, unsigned_abs}
 use Rattle.tables.specs.Chains.{chain}
 use Rattle.task.specs.Meaning.{names, change}
 use Rattle.tables.specs.Problem.{Problem}

@@ -4,14 +4,12 @@
 --   climb     v from 0 to 20 at 0; B of cost 10 adds 1, C of cost 1 needs v at least 5 and adds 1; the goal is v at least 10
 --   Worked    what LM-cut answers at the start of each, and its landmark records
 use Rattle.std.specs.Prelude.{◌≡◌, ℕ, List, [], ◌∷◌, ℤ, pos}
-use Rattle.tables.specs.Check.{accepted}
 use Rattle.tables.specs.Problem.{Problem}
 use Rattle.task.specs.States.{start_state}
 use Rattle.tables.specs.declared.Link.{Link}
 use Rattle.tables.specs.declared.Move.{Move}
 use Rattle.landmarks.specs.Rounds.{estimate, grounds}
 use Rattle.landmarks.specs.declared.Ground.{Ground}
-use Rattle.estimate.specs.declared.estimate.Estimate.{Estimate}
 use Rattle.estimate.specs.declared.estimate.Estimate.TheVariants.{Dead as dead, AtLeast as at_least}
 
 abbrev pub link : ℕ → ℕ → ℤ → ℕ → Link

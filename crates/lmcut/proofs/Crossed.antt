@@ -1,21 +1,14 @@
 -- The crossing edges of an action, node by node, and those of all actions, action by action.
-use Rattle.std.proofs.Common.{◌≡◌, ℕ, zero, suc, ◌+◌, ◌-◌, ◌*◌, ◌/◌, ◌%◌, ◌<◌, ◌≤◌, min, max, Bool, true, false, ◌&&◌, List, [], ◌∷◌, get_or, Some, None, Option, sym, refl, ap, ◌∙◌, subst, ap₂, ⊎_elim, div-mul-le_self, arith}
-use lib.Bits.{bit_and}
+use Rattle.std.proofs.Common.{◌≡◌, ℕ, zero, suc, ◌+◌, ◌-◌, ◌*◌, ◌/◌, ◌%◌, ◌<◌, ◌≤◌, min, max, Bool, true, false, List, [], ◌∷◌, get_or, Some, None, Option, sym, refl, ap, ◌∙◌, div-mul-le_self, arith}
 use Rattle.std.proofs.lemmas.Nat.{mul-le, div-mul-add, div-add-mod', mod_below}
-use Rattle.std.proofs.lemmas.Bool.{cases_lt, cases_eq, cond-true, cond-false, true≢false}
-use Rattle.task.specs.States.{fact_holds}
-use Rattle.lmcut.specs.Bitwise.{BitStep}
-use Rattle.lmcut.specs.Drawn.{read_value, edges_at, edges_from, edges_in, zone_of, marked, Placed, Light}
-use Rattle.lmcut.specs.Questions.{unit_edge, edge_at, reach_of, with_edge, reaches_from, Fits}
-use Rattle.lmcut.specs.Valued.{infinite}
+use Rattle.std.proofs.lemmas.Bool.{cond-true, cond-false}
+use Rattle.lmcut.specs.Drawn.{edges_at, edges_from, edges_in, Light}
+use Rattle.lmcut.specs.Questions.{edge_at, reach_of, with_edge, reaches_from, Fits}
 use Rattle.landmarks.specs.Relaxed.{Reach}
 use Rattle.landmarks.specs.Rounds.{ceil_div, weight, Value, smaller, in_zone, into, starts, Crossing, crossing, crossings, lightest, lightest_of, or_zero, cut_weight, charge}
 use Rattle.lmcut.specs.declared.question.Edge.{Edge}
 use Rattle.lmcut.specs.declared.question.Question.{Question}
 use Rattle.landmarks.proofs.Cuts.{charge_fits}
-use Rattle.lmcut.proofs.Bitwise.{Coming, coming_start, coming_step, coming_end, upwards}
-use Rattle.lmcut.proofs.Prepared.{holds_and, told_some, told_none}
-use Rattle.lmcut.proofs.Zoned.{zone_at, zone_goal, marked_starts, edge_none, edge_goal, edge_goal_none}
 
 -- ---- an action's edges into a zone, from a node on
 
@@ -53,82 +46,6 @@ pub into_end : (q : Question) (near : List Bool) (a i : ℕ) → q.nodes ≤ i �
 unfolding reaches_from
 into_end q near a i h = let e : q.nodes - i ≡ 0 = omega arith in ap (λ k. into near (reaches_from q a i k)) e
 
--- ---- an action's edges into the zone of a word, bit by bit
-
-module _ (q : Question) (near a : ℕ) where
-  abbrev pub goal-side : List Bool
-  goal-side = zone_of q true near
-
-  abbrev pub entered : ℕ
-  entered = bit_and (get_or q.reach a 0) near
-
-  -- where the bits of w are still to come, a fact of the edges that are
-  pub record Entering (P : List Reach → Type 0) (w : ℕ) : Type 0 where
-    pub at : ℕ
-    pub inside : at + 1 ≤ q.nodes
-    pub coming : Coming entered at w
-    pub so : P (into_from q goal-side a at)
-
-  -- a node whose bit is set
-  pub record Enters (n : ℕ) : Type 0 where
-    pub reached : fact_holds (get_or q.reach a 0) n ≡ true
-    pub zoned : in_zone goal-side n ≡ true
-    pub below : n + 1 < q.nodes
-
-  module _ (f : Fits q) where
-    enters : (n : ℕ) → fact_holds entered n ≡ true → Enters n
-    enters n e =
-        let b = both (fact_holds (get_or q.reach a 0) n) (fact_holds near n) (sym (holds_and (get_or q.reach a 0) near n) ∙ e) in
-        let l = f.reach_inside a n b.0 in
-        record { reached = b.0; zoned = zone_at q true near f.some_nodes n l ∙ b.1; below = l }
-      where
-        both : (x y : Bool) → (x && y) ≡ true → (x ≡ true) × (y ≡ true)
-        both true y h = (refl, h)
-        both false y h = absurd (true≢false (sym h))
-
-    into_clear : (n : ℕ) → n + 1 < q.nodes → fact_holds entered n ≡ false → into_from q goal-side a n ≡ into_from q goal-side a (n + 1)
-    into_clear n l e = go (fact_holds (get_or q.reach a 0) n) (fact_holds near n) refl refl (sym (holds_and (get_or q.reach a 0) near n) ∙ e)
-      where
-        go : (x y : Bool) → fact_holds (get_or q.reach a 0) n ≡ x → fact_holds near n ≡ y → (fact_holds (get_or q.reach a 0) n && fact_holds near n) ≡ false → into_from q goal-side a n ≡ into_from q goal-side a (n + 1)
-        go true true r z h = absurd (true≢false (sym (ap₂ ◌&&◌ r z) ∙ h))
-        go true false r z h = into_far q goal-side a n (omega arith) (zone_at q true near f.some_nodes n l ∙ z)
-        go false y r z h = into_none q goal-side a n (omega arith) (edge_none q a n l r)
-
-    into_skip : (k n : ℕ) → k ≤ n → n + 1 ≤ q.nodes → ((m : ℕ) → k ≤ m → m < n → fact_holds entered m ≡ false) → into_from q goal-side a k ≡ into_from q goal-side a n
-    into_skip k n h l none = upwards (λ m. into_from q goal-side a k ≡ into_from q goal-side a m) k n h (λ m x y e. e ∙ into_clear m (omega arith) (none m x y)) refl
-
-    pub entering_start : (P : List Reach → Type 0) (w : ℕ) → w ≡ entered → P (into_all q goal-side a) → Entering P w
-    entering_start P w e p = let l = f.some_nodes in let z : q.nodes ≡ q.nodes - 0 = omega arith in
-        record { at = 0; inside = omega arith; coming = coming_start entered w e; so = subst (λ k. P (into goal-side (reaches_from q a 0 k))) z p }
-
-    pub entering_some : (P : List Reach → Type 0) (w n v : ℕ) → Entering P w → BitStep w (Some n) v → Enters n
-    entering_some P w n v i s = enters n (coming_step entered i.at w n v i.coming s).set
-
-    pub entering_step : (P Q : List Reach → Type 0) (w n v : ℕ) (e : Edge) → Entering P w → BitStep w (Some n) v → edge_at q a n ≡ Some e → ((xs : List Reach) → P (reach_of n e ∷ xs) → Q xs) → Entering Q v
-    entering_step P Q w n v e i s t g =
-        let c = coming_step entered i.at w n v i.coming s in
-        let b = enters n c.set in
-        let l = b.below in
-        record {
-          at = n + 1;
-          inside = omega arith;
-          coming = c.rest;
-          so = g (into_from q goal-side a (n + 1)) (subst P (into_skip i.at n c.from (omega arith) c.none ∙ into_some q goal-side a n (omega arith) e t b.zoned) i.so);
-        }
-
-    pub entering_end : (P : List Reach → Type 0) (w v : ℕ) → Entering P w → BitStep w None v → P (into_from q goal-side a (q.nodes - 1))
-    entering_end P w v i s = let l = i.inside in subst P (into_skip i.at (q.nodes - 1) (omega arith) (omega arith) (λ m x y. coming_end entered i.at w v i.coming s m x)) i.so
-
-    -- the goal node is in the zone, and the helper alone reaches it
-    pub into_goal : a + 1 ≡ q.actions → into_from q goal-side a (q.nodes - 1) ≡ reach_of (q.nodes - 1) unit_edge ∷ []
-    into_goal h = let l = f.some_nodes in
-        into_some q goal-side a (q.nodes - 1) (omega arith) unit_edge (edge_goal q a l h) (zone_goal q true near l)
-        ∙ ap (λ xs. reach_of (q.nodes - 1) unit_edge ∷ xs) (into_end q goal-side a (q.nodes - 1 + 1) (omega arith))
-
-    pub into_no_goal : (a + 1 ≡ q.actions → ⊥) → into_from q goal-side a (q.nodes - 1) ≡ []
-    into_no_goal h = let l = f.some_nodes in
-        into_none q goal-side a (q.nodes - 1) (omega arith) (edge_goal_none q a l h) ∙ into_end q goal-side a (q.nodes - 1 + 1) (omega arith)
-
 -- ---- the lightest edge of an action
 
 smaller_assoc : (x y z : Value) → smaller x (smaller y z) ≡ smaller (smaller x y) z
@@ -141,33 +58,19 @@ smaller_none : (x : Value) → smaller x None ≡ x
 smaller_none None = refl
 smaller_none (Some a) = refl
 
--- the smaller of two numbers that stand for values
-pub read_min : (x y : ℕ) → x ≤ infinite → y ≤ infinite → read_value (min x y) ≡ smaller (read_value x) (read_value y)
-read_min x y h k = ⊎_elim
-    (λ e. let m : min x y ≡ y = omega arith in ap read_value m ∙ ap (λ v. smaller v (read_value y)) (sym (told_none x e)))
-    (λ n. ⊎_elim
-    (λ e. let m : min x y ≡ x = omega arith in ap read_value m ∙ sym (smaller_none (read_value x)) ∙ ap (smaller (read_value x)) (sym (told_none y e)))
-    (λ z. told_some (min x y) (λ e. ⊎_elim (λ l. z (omega arith)) (λ l. n (omega arith)) (cases_lt y x)) ∙ sym (ap₂ smaller (told_some x n) (told_some y z)))
-    (cases_eq y infinite))
-    (cases_eq x infinite)
+abbrev pub Lightening : Question → ℕ → List Bool → ℕ → ℕ → Value → Type 0
+Lightening q r near a i best = smaller best (lightest r (into_from q near a i)) ≡ lightest r (into_all q near a)
 
-abbrev pub Lightening : ℕ → List Reach → Value → List Reach → Type 0
-Lightening r all best xs = smaller best (lightest r xs) ≡ lightest r all
-
-pub lightest_end : (r : ℕ) (all : List Reach) (best : Value) → Lightening r all best [] → best ≡ lightest r all
+pub lightest_end : (q : Question) (r : ℕ) (near : List Bool) (a i : ℕ) (best : Value) → q.nodes ≤ i → Lightening q r near a i best → best ≡ lightest r (into_all q near a)
 unfolding lightest
-lightest_end r all best w = sym (smaller_none best) ∙ w
+lightest_end q r near a i best h w = sym (smaller_none best) ∙ ap (λ xs. smaller best (lightest r xs)) (sym (into_end q near a i h)) ∙ w
 
-pub lightest_take : (r : ℕ) (all : List Reach) (best : Value) (x : Reach) (xs : List Reach) → Lightening r all best (x ∷ xs) → Lightening r all (smaller best (Some (weight r x))) xs
+pub lightest_skip : (q : Question) (r : ℕ) (near : List Bool) (a i : ℕ) (best : Value) → into_from q near a i ≡ into_from q near a (i + 1) → Lightening q r near a i best → Lightening q r near a (i + 1) best
+lightest_skip q r near a i best e w = ap (λ xs. smaller best (lightest r xs)) (sym e) ∙ w
+
+pub lightest_take : (q : Question) (r : ℕ) (near : List Bool) (a i : ℕ) (best : Value) (x : Reach) → into_from q near a i ≡ x ∷ into_from q near a (i + 1) → Lightening q r near a i best → Lightening q r near a (i + 1) (smaller best (Some (weight r x)))
 unfolding lightest
-lightest_take r all best x xs w = sym (smaller_assoc best (Some (weight r x)) (lightest r xs)) ∙ w
-
--- where the smallest so far is a number that stands for a value
-pub lightest_read : (r : ℕ) (all : List Reach) (best best' : ℕ) (x : Reach) (xs : List Reach) → best ≤ infinite → weight r x < infinite → best' ≡ min best (weight r x)
-    → Lightening r all (read_value best) (x ∷ xs) → Lightening r all (read_value best') xs
-lightest_read r all best best' x xs h k e w =
-    let z : weight r x ≡ infinite → ⊥ = λ t. omega arith in
-    subst (λ v. Lightening r all v xs) (sym (ap read_value e ∙ read_min best (weight r x) h (omega arith) ∙ ap (smaller (read_value best)) (told_some (weight r x) z))) (lightest_take r all (read_value best) x xs w)
+lightest_take q r near a i best x e w = sym (smaller_assoc best (Some (weight r x)) (lightest r (into_from q near a (i + 1)))) ∙ ap (λ xs. smaller best (lightest r xs)) (sym e) ∙ w
 
 -- ---- the largest charge of an action
 
@@ -183,16 +86,20 @@ ceil_is a b h = go (a % b) (a / b) (div-add-mod' a b) (mod_below a b h)
         let w : a + (b - 1) ≡ (d + 1) * b + r = omega arith in
         let k = ap (λ n. n / b) w ∙ div-mul-add (d + 1) b r (omega arith) in omega arith
 
-abbrev pub Charging : ℕ → List Reach → ℕ → List Reach → Type 0
-Charging μ all most xs = max most (charge μ xs) ≡ charge μ all
+abbrev pub Charging : Question → ℕ → List Bool → ℕ → ℕ → ℕ → Type 0
+Charging q μ near a i most = max most (charge μ (into_from q near a i)) ≡ charge μ (into_all q near a)
 
-pub charge_end : (μ : ℕ) (all : List Reach) (most : ℕ) → Charging μ all most [] → most ≡ charge μ all
+pub charge_end : (q : Question) (μ : ℕ) (near : List Bool) (a i most : ℕ) → q.nodes ≤ i → Charging q μ near a i most → most ≡ charge μ (into_all q near a)
 unfolding charge
-charge_end μ all most w = omega arith
+charge_end q μ near a i most h w = let e : charge μ (into_from q near a i) ≡ 0 = ap (charge μ) (into_end q near a i h) in omega arith
 
-pub charge_take : (μ : ℕ) (all : List Reach) (most most' : ℕ) (x : Reach) (xs : List Reach) → most' ≡ max most (ceil_div (μ * x.gain) x.short) → Charging μ all most (x ∷ xs) → Charging μ all most' xs
+pub charge_skip : (q : Question) (μ : ℕ) (near : List Bool) (a i most : ℕ) → into_from q near a i ≡ into_from q near a (i + 1) → Charging q μ near a i most → Charging q μ near a (i + 1) most
+charge_skip q μ near a i most e w = ap (λ xs. max most (charge μ xs)) (sym e) ∙ w
+
+pub charge_take : (q : Question) (μ : ℕ) (near : List Bool) (a i most : ℕ) (x : Reach) → into_from q near a i ≡ x ∷ into_from q near a (i + 1) → Charging q μ near a i most → Charging q μ near a (i + 1) (max most (ceil_div (μ * x.gain) x.short))
 unfolding charge
-charge_take μ all most most' x xs e w = omega arith
+charge_take q μ near a i most x e w =
+    let c : charge μ (into_from q near a i) ≡ max (ceil_div (μ * x.gain) x.short) (charge μ (into_from q near a (i + 1))) = ap (charge μ) e in omega arith
 
 -- an edge's charge, and what is computed for it, are small
 pub record Small (short gain r μ : ℕ) : Type 0 where
@@ -209,13 +116,6 @@ small_charge q r near μ a n e f h k m l s z =
     record { product = omega arith; within = charge_fits μ r (reach_of n e) b.0 light }
 
 -- ---- the cut, action by action
-
--- an action's source is a node below the goal node
-pub source_small : (q : Question) (ss : List (Option ℕ)) (a : ℕ) → Fits q → Placed q ss → a < q.actions → (n : ℕ) → get_or ss a None ≡ Some n → n < 128
-source_small q ss a f p h n e = let l = p a n h e in let k = f.few_nodes in omega arith
-
-pub source_starts : (q : Question) (ss : List (Option ℕ)) (a : ℕ) → Fits q → Placed q ss → a < q.actions → (g : Bool) (w : ℕ) → marked w (get_or ss a None) ≡ starts (zone_of q g w) (get_or ss a None)
-source_starts q ss a f p h g w = marked_starts q g w f.some_nodes (get_or ss a None) (λ n e. p a n h e)
 
 abbrev pub Weighing : Question → List ℕ → List (Option ℕ) → List Bool → List Bool → ℕ → Value → Type 0
 Weighing q rs ss near start i best = smaller best (lightest_of (crossings (edges_from q rs ss i (q.actions - i)) near start)) ≡ lightest_of (crossings (edges_in q rs ss) near start)

@@ -2,7 +2,6 @@ pub mod Picks
 pub mod Crossed
 pub mod Paying
 pub mod Closing
-pub mod Leading
 pub mod Starting
 pub mod Bridges
 pub mod Prepared
@@ -10,18 +9,3 @@ pub mod Offers
 pub mod Settling
 pub mod Queues
 pub mod Turns
-pub mod Formed
-pub mod Costing
-pub mod Assembled
-pub mod Filling
-pub mod Weighing
-pub mod Adding
-pub mod Needing
-pub mod Shortfalls
-pub mod Rows
-pub mod Laying
-pub mod Rounding
-pub mod Noting
-pub mod Bitwise
-pub mod Zoned
-pub mod Marking

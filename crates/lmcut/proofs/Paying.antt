@@ -12,7 +12,19 @@ use Rattle.lmcut.specs.declared.question.Edge.{Edge}
 use Rattle.lmcut.specs.declared.question.Question.{Question}
 use Rattle.landmarks.proofs.Orders.{map_in}
 use Rattle.landmarks.proofs.Cuts.{crossing_in, weight_least, ceil_high}
-use Rattle.lmcut.proofs.Prepared.{in_reaches}
+
+-- ---- edges that arrays hold
+
+pub reaches_in : (q : Question) (a s k n : ℕ) (e : Edge) → s ≤ n → n < s + k → edge_at q a n ≡ Some e → In (reach_of n e) (reaches_from q a s k)
+unfolding reaches_from
+reaches_in q a s zero n e l h t = absurd (omega arith)
+reaches_in q a s (suc k) n e l h t = ⊎_elim
+    (λ z. subst (λ (o : Option Edge). In (reach_of n e) (with_edge s o (reaches_from q a (s + 1) k))) (sym (ap (edge_at q a) z ∙ t)) (inl (ap (λ m. reach_of m e) z)))
+    (λ ne. go (edge_at q a s) (reaches_in q a (s + 1) k n e (omega arith) (omega arith) t)) (cases_eq s n)
+  where
+    go : (o : Option Edge) → In (reach_of n e) (reaches_from q a (s + 1) k) → In (reach_of n e) (with_edge s o (reaches_from q a (s + 1) k))
+    go None i = i
+    go (Some f) i = inr i
 
 pub edges_in_from : (q : Question) (rs : List ℕ) (ss : List (Option ℕ)) (s k a : ℕ) → s ≤ a → a < s + k → In (edges_at q rs ss a) (edges_from q rs ss s k)
 unfolding edges_from
@@ -36,7 +48,7 @@ pub light_cut : (q : Question) (rs : List ℕ) (ss : List (Option ℕ)) (near st
 light_cut q rs ss near start a h s n e k t z =
     weight_least (crossings (edges_in q rs ss) near start) (crossing near start (edges_at q rs ss a)) (reach_of n e)
     (map_in (crossing near start) (edges_in q rs ss) (edges_at q rs ss a) (edges_in_from q rs ss 0 q.actions a (omega arith) (omega arith)))
-    (crossing_in near start (edges_at q rs ss a) (reach_of n e) s (in_reaches q a 0 q.nodes n e t (omega arith) (omega arith)) z)
+    (crossing_in near start (edges_at q rs ss a) (reach_of n e) s (reaches_in q a 0 q.nodes n e (omega arith) (omega arith) t) z)
 
 -- ---- what has been paid
 

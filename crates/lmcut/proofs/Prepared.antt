@@ -25,7 +25,7 @@ and_bit x y (inl a) (inr b) = ap₂ (λ m n. eqb (bit_and m n) 1) a b ∙ sym (a
 and_bit x y (inr a) (inl b) = ap₂ (λ m n. eqb (bit_and m n) 1) a b ∙ sym (ap₂ (λ m n. eqb m 1 && eqb n 1) a b)
 and_bit x y (inr a) (inr b) = ap₂ (λ m n. eqb (bit_and m n) 1) a b ∙ sym (ap₂ (λ m n. eqb m 1 && eqb n 1) a b)
 
-pub holds_and : (a b k : ℕ) → fact_holds (bit_and a b) k ≡ (fact_holds a k && fact_holds b k)
+holds_and : (a b k : ℕ) → fact_holds (bit_and a b) k ≡ (fact_holds a k && fact_holds b k)
 holds_and a b k =
     ap (λ x. eqb (x % 2) 1) (and_shr a b k) ∙ ap (λ x. eqb x 1) (and_mod (a / 2 ^ k) (b / 2 ^ k) 1)
     ∙ and_bit (a / 2 ^ k % 2) (b / 2 ^ k % 2) (bit_small (a / 2 ^ k)) (bit_small (b / 2 ^ k))
@@ -37,7 +37,7 @@ no_bit n = ne_eqb (0 / 2 ^ n % 2) 1 (λ e. let d = div-le_self 0 (2 ^ n) in omeg
 pub apart_at : (x y m : ℕ) → bit_and x y ≡ 0 → fact_holds x m ≡ true → fact_holds y m ≡ false
 apart_at x y m e h = sym (ap (λ b. b && fact_holds y m) h) ∙ sym (holds_and x y m) ∙ ap (λ z. fact_holds z m) e ∙ no_bit m
 
-pub no_bits : (k z : ℕ) → z < 2 ^ k → ((m : ℕ) → fact_holds z m ≡ false) → z ≡ 0
+no_bits : (k z : ℕ) → z < 2 ^ k → ((m : ℕ) → fact_holds z m ≡ false) → z ≡ 0
 no_bits zero z l h = omega arith
 no_bits (suc k) z l h =
     let p : suc k ≡ k + 1 = omega arith in
@@ -46,7 +46,7 @@ no_bits (suc k) z l h =
     let low : z % 2 ≡ 1 → ⊥ = λ e. let one : z / 2 ^ 0 ≡ z = omega arith in eqb-false (z / 2 ^ 0 % 2) 1 (h 0) (ap (λ x. x % 2) one ∙ e) in
     ⊎_elim (λ e. omega arith) (λ e. absurd (low e)) (bit_small z)
 
-pub below_power : (n : ℕ) → n < 2 ^ n
+below_power : (n : ℕ) → n < 2 ^ n
 below_power zero = omega arith
 below_power (suc n) = let h = below_power n in let p = pow_below n (suc n) (omega arith) in omega arith
 

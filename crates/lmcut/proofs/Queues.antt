@@ -6,7 +6,7 @@ use Rattle.std.proofs.lemmas.List.{get_or-set_same, get_or-set_other, length-map
 use Rattle.std.proofs.lemmas.List.Sums.{sum_by-cons, get_or-le-sum_by}
 use Rattle.std.proofs.lemmas.Bool.{cases_eq, eq-eqb, ne_eqb, cond-true, cond-false, true≢false}
 use Rattle.std.specs.Cmp.{IsTotalOrder, nat_cmp_total, on_total, tied_itself as tied_with_itself}
-use Rattle.std.specs.Ordering.{is_eq, is_lt, is_gt, ordering_reverse, ordering_then, nat_cmp, on}
+use Rattle.std.specs.Ordering.{is_eq, is_lt, ordering_reverse, ordering_then, nat_cmp, on}
 use Rattle.std.specs.List.{ContainsAt as Has, AllByRecursion as All}
 use Rattle.order.specs.declared.Heap.{Heap}
 use Rattle.order.specs.Laws.{held, room, First, Lawful, Lowered, Popped, Pushed, Unmet}
@@ -16,7 +16,7 @@ use Rattle.order.proofs.Members.{has_here, has_there, has_cons, pushed_has_new, 
 use Rattle.tables.specs.Rules.{Once}
 use Rattle.task.specs.States.{fact_holds}
 use Rattle.lmcut.specs.Valued.{infinite}
-use Rattle.lmcut.specs.Queued.{orders, by_node, entry, named, Waits, Queued, Requeued}
+use Rattle.lmcut.specs.Queued.{orders, by_node, entry, named, Waits, Queued, Requeued, Blank}
 use Rattle.lmcut.specs.declared.values.Node.{Node}
 use Rattle.lmcut.proofs.Prepared.{dropped_at, dropped_other}
 use Rattle.lmcut.proofs.Settling.{Lowest, NoneLow}
@@ -120,14 +120,14 @@ entry_same n a b e = ap (λ v. entry v n) e
 
 -- ---- no entry
 
-pub queued_none_yet : (xs : List ℕ) (w nodes : ℕ) (h : Heap Node) → ((n : ℕ) → n + 1 < nodes → fact_holds w n ≡ true → get_or xs n 0 ≡ infinite) → Lawful orders h → h.len ≡ 0 → room h ≡ 129 → Queued xs w nodes h
-queued_none_yet xs w nodes h b l z r =
+pub queued_none_yet : (xs : List ℕ) (w nodes : ℕ) (h : Heap Node) → nodes ≤ 129 → Blank xs → Lawful orders h → h.len ≡ 0 → room h ≡ 129 → Queued xs w nodes h
+queued_none_yet xs w nodes h few b l z r =
     record {
       lawful = l;
       roomy = r;
       once = λ n. subst (λ k. sum_by (named n) (take k h.entries.now) ≤ 1) (sym z) (omega arith);
       only = λ v m. absurd (let k = length_held h l in let i = m.1 in omega arith);
-      each = λ n t. absurd (t.finite (b n t.inside t.waits));
+      each = λ n t. absurd (t.finite (b n (let i = t.inside in omega arith)));
     }
 
 module _ (xs : List ℕ) (w nodes : ℕ) (h : Heap Node) (qd : Queued xs w nodes h) where

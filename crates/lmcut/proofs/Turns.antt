@@ -1,5 +1,5 @@
 -- One turn: the first entry leaves the heap and its node the open nodes, and the actions that are due make their offers.
-use Rattle.std.proofs.Common.{ℕ, ◌*◌, ◌%◌, ◌^◌, ◌<◌, ◌≤◌, List, get_or, sym, subst, ⊎_elim, arith}
+use Rattle.std.proofs.Common.{ℕ, ◌*◌, ◌%◌, ◌^◌, ◌<◌, ◌≤◌, false, List, get_or, sym, subst, ⊎_elim, arith}
 use lib.Bits.{bit_and, bit_xor}
 use Rattle.std.proofs.lemmas.Nat.{one_shl}
 use Rattle.order.specs.declared.Heap.{Heap}
@@ -37,10 +37,10 @@ module _ (q : Question) (rs xs : List ℕ) (w top : ℕ) (h : Heap Node) (x : No
   pub turn_queued : (k : Heap Node) → Lawful orders k → Popped h x k → Queued xs (without w x.number) q.nodes k
   turn_queued k law p = subst (λ y. Queued xs (bit_xor w (bit_and w y)) q.nodes k) (sym (one_shl x.number 128 turn_inside)) (queued_pop xs w q.nodes h qd x first k law p)
 
-  pub turn_going : Modest rs → (ys : List ℕ) → ReachedTo q rs (fires_at q (without w x.number) x.number) x.value q.actions xs ys → Going q rs ys (without w x.number) x.value none_due
+  pub turn_going : Modest rs → (ys : List ℕ) → ReachedTo q rs (fires_at q (without w x.number) false x.number) x.value q.actions xs ys → Going q rs ys (without w x.number) x.value none_due
   turn_going small ys r =
       let next = going_next q rs xs w top x.number g turn_lowest in
       let v = queued_value xs w q.nodes h qd x first in
-      let there = subst (λ y. Going q rs xs (bit_xor w (bit_and w y)) (get_or xs x.number 0) (fires_at q (bit_xor w (bit_and w y)) x.number)) (sym (one_shl x.number 128 turn_inside)) next in
-      let here = subst (λ t. Going q rs xs (without w x.number) t (fires_at q (without w x.number) x.number)) (sym v) there in
-      going_fired q rs xs ys (without w x.number) x.value (fires_at q (without w x.number) x.number) f small here r
+      let there = subst (λ y. Going q rs xs (bit_xor w (bit_and w y)) (get_or xs x.number 0) (fires_at q (bit_xor w (bit_and w y)) false x.number)) (sym (one_shl x.number 128 turn_inside)) next in
+      let here = subst (λ t. Going q rs xs (without w x.number) t (fires_at q (without w x.number) false x.number)) (sym v) there in
+      going_fired q rs xs ys (without w x.number) x.value (fires_at q (without w x.number) false x.number) f small here r

@@ -1,26 +1,45 @@
 // The cut between two zones: its weight, what each action is charged, and what is left of the costs.
-ghost use Rattle.std.specs.Prelude.{◌≡◌, ◌<◌, ◌≤◌, true, false, take, None, slice_index_or};
-ghost use Rattle.lmcut.specs.Drawn.{read_value, edges_in, paid, zone_of, Placed, Modest, Light};
+ghost use Rattle.std.specs.Prelude.{◌≡◌, ℕ, ◌<◌, ◌≤◌, true, take, Some, None, slice_index_or};
+ghost use Rattle.lmcut.specs.Drawn.{edges_in, paid, Placed, Modest, Light};
 ghost use Rattle.lmcut.specs.Questions.{reaches_from, Fits};
-ghost use Rattle.landmarks.specs.Rounds.{starts, into, crossings, lightest, cut_weight, charge, left_after};
+ghost use Rattle.landmarks.specs.Rounds.{smaller, starts, into, crossings, lightest, cut_weight, charge, left_after};
 
-use crate::bits::*;
 use crate::question::Question;
-use crate::spread::starts;
 
-// The smallest weight of an action's edges into the goal zone, the largest number if there is none. Besides the nodes of its word
-// the helper reaches the goal node.
-fn lightest(question: &Question, left: u64, near: u128, action: usize) -> u64
-    requires { (Fits question.now) × ((action < question.now.actions) × (left ≤ 50400000)) }
-    ensures { read_value result ≡ lightest left (into (zone_of question.now true near) (reaches_from question.now action 0 question.now.nodes)) }
+// The smaller of two values, where none is infinite.
+fn smaller(one: Option<u64>, other: Option<u64>) -> Option<u64>
+    ensures { result ≡ smaller one other }
 {
-    let mut best = u64::MAX;
-    for node in Bits::new(question.reach[action] & near) {
-        let edge = question.inner(action, node);
-        best = best.min(edge.short * left / edge.gain);
+    match (one, other) {
+        (Some(a), Some(b)) => Some(a.min(b)),
+        (None, _) => other,
+        (_, None) => one,
     }
-    if action + 1 == question.actions {
-        best = best.min(left);
+}
+
+// Whether an action's edges run from the ground or from a node of a zone.
+pub(crate) fn starts(sources: &[Option<usize>; 257], zone: &[bool; 129], action: usize) -> bool
+    requires { (action < 257) × (((n : ℕ) → slice_index_or sources.now action None ≡ Some n → n < 129)) }
+    ensures { result ≡ starts zone.now (slice_index_or sources.now action None) }
+{
+    match sources[action] {
+        None => true,
+        Some(node) => zone[node],
+    }
+}
+
+// The smallest weight of an action's edges into the goal zone.
+fn lightest(question: &Question, left: u64, near: &[bool; 129], action: usize) -> Option<u64>
+    requires { (Fits question.now) × ((action < question.now.actions) × (left ≤ 50400000)) }
+    ensures { result ≡ lightest left (into near.now (reaches_from question.now action 0 question.now.nodes)) }
+{
+    let mut best = None;
+    for node in 0..question.nodes {
+        if near[node] {
+            if let Some(edge) = question.edge(action, node) {
+                best = smaller(best, Some(edge.short * left / edge.gain));
+            }
+        }
     }
     best
 }
@@ -29,35 +48,35 @@ fn lightest(question: &Question, left: u64, near: u128, action: usize) -> u64
 pub(crate) fn cut_weight(
     question: &Question,
     left: &[u64; 257],
-    sources: &[Option<u8>; 257],
-    near: u128,
-    start: u128,
+    sources: &[Option<usize>; 257],
+    near: &[bool; 129],
+    start: &[bool; 129],
 ) -> u64
     requires { (Fits question.now) × ((Placed question.now sources.now) × (Modest left.now)) }
-    ensures { result ≡ cut_weight (crossings (edges_in question.now left.now sources.now) (zone_of question.now true near) (zone_of question.now false start)) }
+    ensures { result ≡ cut_weight (crossings (edges_in question.now left.now sources.now) near.now start.now) }
 {
-    let mut best = u64::MAX;
+    let mut best = None;
     for action in 0..question.actions {
         if starts(sources, start, action) {
-            best = best.min(lightest(question, left[action], near, action));
+            best = smaller(best, lightest(question, left[action], near, action));
         }
     }
-    if best == u64::MAX { 0 } else { best }
+    best.unwrap_or(0)
 }
 
 // The largest charge of an action's edges into the goal zone, none of which weighs less than the cut.
-fn charge(question: &Question, left: u64, near: u128, weight: u64, action: usize) -> u64
-    requires { (Fits question.now) × ((action < question.now.actions) × ((left ≤ 50400000) × (Light question.now left (zone_of question.now true near) weight action))) }
-    ensures exact { result ≡ charge weight (into (zone_of question.now true near) (reaches_from question.now action 0 question.now.nodes)) }
+fn charge(question: &Question, left: u64, near: &[bool; 129], weight: u64, action: usize) -> u64
+    requires { (Fits question.now) × ((action < question.now.actions) × ((left ≤ 50400000) × (Light question.now left near.now weight action))) }
+    ensures exact { result ≡ charge weight (into near.now (reaches_from question.now action 0 question.now.nodes)) }
     ensures within { result ≤ left }
 {
     let mut most = 0;
-    for node in Bits::new(question.reach[action] & near) {
-        let edge = question.inner(action, node);
-        most = most.max((weight * edge.gain).div_ceil(edge.short));
-    }
-    if action + 1 == question.actions {
-        most = most.max(weight);
+    for node in 0..question.nodes {
+        if near[node] {
+            if let Some(edge) = question.edge(action, node) {
+                most = most.max((weight * edge.gain).div_ceil(edge.short));
+            }
+        }
     }
     most
 }
@@ -66,9 +85,9 @@ fn charge(question: &Question, left: u64, near: u128, weight: u64, action: usize
 fn charge_of(
     question: &Question,
     left: u64,
-    sources: &[Option<u8>; 257],
-    near: u128,
-    start: u128,
+    sources: &[Option<usize>; 257],
+    near: &[bool; 129],
+    start: &[bool; 129],
     weight: u64,
     action: usize,
 ) -> u64
@@ -76,8 +95,8 @@ fn charge_of(
     requires placed { Placed question.now sources.now }
     requires inside { action < question.now.actions }
     requires modest { left ≤ 50400000 }
-    requires light { starts (zone_of question.now false start) (slice_index_or sources.now action None) ≡ true → Light question.now left (zone_of question.now true near) weight action }
-    ensures exact { result ≡ paid question.now sources.now (zone_of question.now true near) (zone_of question.now false start) weight action }
+    requires light { starts start.now (slice_index_or sources.now action None) ≡ true → Light question.now left near.now weight action }
+    ensures exact { result ≡ paid question.now sources.now near.now start.now weight action }
     ensures within { result ≤ left }
 {
     if starts(sources, start, action) {
@@ -91,16 +110,16 @@ fn charge_of(
 pub(crate) fn charge_all(
     question: &Question,
     left: &mut [u64; 257],
-    sources: &[Option<u8>; 257],
-    near: u128,
-    start: u128,
+    sources: &[Option<usize>; 257],
+    near: &[bool; 129],
+    start: &[bool; 129],
     weight: u64,
 )
     requires fits { Fits question.now }
     requires placed { Placed question.now sources.now }
     requires modest { Modest left.old }
-    requires weighs { weight ≡ cut_weight (crossings (edges_in question.now left.old sources.now) (zone_of question.now true near) (zone_of question.now false start)) }
-    ensures left { take question.now.actions left.new ≡ left_after weight (crossings (edges_in question.now left.old sources.now) (zone_of question.now true near) (zone_of question.now false start)) }
+    requires weighs { weight ≡ cut_weight (crossings (edges_in question.now left.old sources.now) near.now start.now) }
+    ensures left { take question.now.actions left.new ≡ left_after weight (crossings (edges_in question.now left.old sources.now) near.now start.now) }
     ensures modest { Modest left.new }
 {
     for action in 0..question.actions {

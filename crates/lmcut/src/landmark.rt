@@ -20,8 +20,8 @@ pub(crate) fn pay(question: &Question, values: &[u64; 129], left: &mut [u64; 257
 {
     let sources = sources(question, values);
     let near = goal_zone(question, left, &sources);
-    let start = start_zone(question, &sources, near);
-    let weight = cut_weight(question, left, &sources, near, start);
-    charge_all(question, left, &sources, near, start, weight);
+    let start = start_zone(question, &sources, &near);
+    let weight = cut_weight(question, left, &sources, &near, &start);
+    charge_all(question, left, &sources, &near, &start, weight);
     weight
 }

@@ -1,19 +1,12 @@
-// The LM-cut estimator: a lower bound on the cost of every plan from a state of a simple numeric planning task, and the landmark
-// records that it comes from.
+// LM-cut by rounds: a lower bound on the cost of every plan from a state of a simple numeric planning task.
 #![tactic(auto)]
 
-mod bits;
 mod charges;
 mod choice;
-mod effects;
-pub mod estimator;
 mod landmark;
-mod marks;
-mod needs;
-mod prepare;
 pub mod question;
-mod reaches;
-mod rounds;
 mod spread;
-mod standing;
 mod values;
+
+// The laws of the rounds, and worked examples of them.
+pub use landmarks::{examples_stand, laws_stand, rounds_stand};

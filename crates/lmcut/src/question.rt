@@ -1,8 +1,11 @@
-// A question prepared for the rounds: which nodes hold, what each action needs and reaches, and which actions need and reach a node. Nodes are the facts, then the
+// A question prepared for the rounds: which nodes hold, what each action needs and reaches. Nodes are the facts, then the
 // conditions, then the goal node; actions are the moves, then the helper that reaches the goal node.
-ghost use Rattle.std.specs.Prelude.{◌≡◌, ℕ, ◌<◌, ◌≤◌, true, Some, slice_index};
-ghost use Rattle.task.specs.States.{fact_holds};
+ghost use Rattle.std.specs.Prelude.{◌≡◌, ℕ, ◌<◌, ◌≤◌};
 ghost use Rattle.lmcut.specs.Questions.{edge_at, Fits};
+
+pub const MOST_NODES: usize = 129;
+
+pub const MOST_ACTIONS: usize = 257;
 
 #[derive(Clone, Copy)]
 pub struct Question {
@@ -13,8 +16,6 @@ pub struct Question {
     pub(crate) costs: [u32; 257],
     pub(crate) needs: [u128; 257],
     pub(crate) reach: [u128; 257],
-    pub(crate) needing: [[u128; 3]; 128],
-    pub(crate) reaching: [[u128; 3]; 128],
     pub(crate) shorts: [u32; 64],
     pub(crate) gains: [[u32; 64]; 256],
 }
@@ -27,18 +28,28 @@ pub struct Edge {
 }
 
 impl Question {
-    // The edge by which an action reaches a node of its word.
-    pub(crate) fn inner(&self, action: usize, node: usize) -> Edge
-        requires { (Fits self.now) × ((action < self.now.actions) × (fact_holds (slice_index self.now.reach action) node ≡ true)) }
-        ensures { edge_at self.now action node ≡ Some result }
+    // The edge by which an action reaches a node, if it does.
+    pub(crate) fn edge(&self, action: usize, node: usize) -> Option<Edge>
+        requires { (Fits self.now) × ((action < self.now.actions) × (node < self.now.nodes)) }
+        ensures { result ≡ edge_at self.now action node }
     {
+        if node + 1 == self.nodes {
+            return if action + 1 == self.actions {
+                Some(Edge { short: 1, gain: 1 })
+            } else {
+                None
+            };
+        }
+        if (self.reach[action] >> node) & 1 == 0 {
+            return None;
+        }
         if node < self.facts {
-            return Edge { short: 1, gain: 1 };
+            return Some(Edge { short: 1, gain: 1 });
         }
         let condition = node - self.facts;
-        Edge {
+        Some(Edge {
             short: u64::from(self.shorts[condition]),
             gain: u64::from(self.gains[action][condition]),
-        }
+        })
     }
 }

@@ -1,174 +1,163 @@
-// The goal zone, spread node by node, and the start zone, spread action by action until nothing changes. A zone is a word with a bit for each node below the goal node, which is in
-// each goal zone and in no start zone.
-ghost use Rattle.std.specs.Prelude.{◌≡◌, ℕ, ◌+◌, ◌-◌, ◌*◌, ◌<◌, ◌≤◌, true, false, List, take, Some, None, nat_lt, slice_index, slice_index_or};
-ghost use Rattle.lmcut.specs.Drawn.{edges_in, zone_of, marked, Placed, Modest};
-ghost use Rattle.task.specs.States.{fact_holds};
-ghost use Rattle.lmcut.specs.Questions.{edge_at, relaxed_of, Fits};
-ghost use Rattle.lmcut.specs.declared.question.Edge.{Edge};
-ghost use Rattle.landmarks.specs.Rounds.{in_zone, goal_zone, start_zone};
-ghost use Rattle.lmcut.specs.Spreading.{Stepped, Closed, Sources, joins};
+// The goal zone and the start zone, spread node by node until nothing changes.
+ghost use Rattle.std.specs.Prelude.{◌≡◌, ℕ, ◌<◌, ◌≤◌, List, take};
+ghost use Rattle.lmcut.specs.Drawn.{edges_in, Placed, Modest};
+ghost use Rattle.lmcut.specs.Questions.{reaches_from, relaxed_of, Fits};
+ghost use Rattle.landmarks.specs.Rounds.{in_zone, weightless_into, leads_in, goal_zone, start_zone};
+ghost use Rattle.lmcut.specs.Spreading.{Stepped, Closed, Leads, Joined, joins};
 
-use crate::bits::*;
+use crate::charges::starts;
 use crate::question::Question;
 
-// Whether an action's edges run from the ground or from a node of a zone.
-pub(crate) fn starts(sources: &[Option<u8>; 257], zone: u128, action: usize) -> bool
-    requires { (action < 257) × (((n : ℕ) → slice_index_or sources.now action None ≡ Some n → n < 128)) }
-    ensures { result ≡ marked zone (slice_index_or sources.now action None) }
-{
-    match sources[action] {
-        None => true,
-        Some(node) => (zone >> node) & 1 == 1,
-    }
-}
-
-// Whether the edge from an action to a node that it reaches weighs 0.
-fn weightless(question: &Question, left: u64, action: usize, node: usize) -> bool
+// Whether an edge of weight 0 leads from an action into a zone.
+fn weightless(question: &Question, left: u64, zone: &[bool; 129], action: usize) -> bool
     requires fits { Fits question.now }
     requires inside { action < question.now.actions }
-    requires reached { fact_holds (slice_index question.now.reach action) node ≡ true }
     requires modest { left ≤ 50400000 }
-    ensures { (e : Edge) → edge_at question.now action node ≡ Some e → result ≡ nat_lt (e.short * left) e.gain }
+    ensures { result ≡ weightless_into zone.now left (reaches_from question.now action 0 question.now.nodes) }
 {
-    let edge = question.inner(action, node);
-    edge.short * left < edge.gain
+    for node in 0..question.nodes {
+        if zone[node] {
+            if let Some(edge) = question.edge(action, node) {
+                if edge.short * left < edge.gain {
+                    return true;
+                }
+            }
+        }
+    }
+    false
 }
 
-// An action's chosen need, as a word, where its edge to a node that it reaches weighs 0.
-fn lead(
+// Adds an action's chosen need to the goal zone, if an edge of weight 0 leads on from it; says whether that is new.
+fn goal_step(
     question: &Question,
     left: &[u64; 257],
-    sources: &[Option<u8>; 257],
-    node: usize,
+    sources: &[Option<usize>; 257],
+    zone: &mut [bool; 129],
     action: usize,
-) -> u128
+) -> bool
     requires fits { Fits question.now }
     requires placed { Placed question.now sources.now }
     requires modest { Modest left.now }
     requires inside { action < question.now.actions }
-    requires reached { fact_holds (slice_index question.now.reach action) node ≡ true }
-    ensures { Sources question.now left.now sources.now node action (action + 1) result }
+    ensures { Stepped (leads_in (edges_in question.now left.now sources.now)) question.now.nodes (Leads question.now left.now sources.now action) zone.old zone.new result }
 {
     if let Some(source) = sources[action] {
-        if weightless(question, left[action], action, node) {
-            return 1 << source;
+        if !zone[source] && weightless(question, left[action], zone, action) {
+            zone[source] = true;
+            return true;
         }
     }
-    0
+    false
 }
 
-// The chosen needs of those of the 128 actions of a part that lead to a node by edges of weight 0.
-fn leads_of(
+// One step for each action.
+fn goal_pass(
     question: &Question,
     left: &[u64; 257],
-    sources: &[Option<u8>; 257],
-    node: usize,
-    part: usize,
-) -> u128
+    sources: &[Option<usize>; 257],
+    zone: &mut [bool; 129],
+) -> bool
     requires fits { Fits question.now }
     requires placed { Placed question.now sources.now }
     requires modest { Modest left.now }
-    requires inside { node + 1 < question.now.nodes }
-    requires few { part < 3 }
-    ensures { Sources question.now left.now sources.now node (128 * part) (128 * part + 128) result }
+    ensures { Stepped (leads_in (edges_in question.now left.now sources.now)) question.now.nodes (Closed (leads_in (edges_in question.now left.now sources.now)) question.now.nodes) zone.old zone.new result }
 {
-    let mut found = 0u128;
-    for bit in Bits::new(question.reaching[node][part]) {
-        found |= lead(question, left, sources, node, 128 * part + bit);
-    }
-    found
-}
-
-// The chosen needs of all actions that lead to a node below the goal node by edges of weight 0.
-fn leads(question: &Question, left: &[u64; 257], sources: &[Option<u8>; 257], node: usize) -> u128
-    requires fits { Fits question.now }
-    requires placed { Placed question.now sources.now }
-    requires modest { Modest left.now }
-    requires inside { node + 1 < question.now.nodes }
-    ensures { Sources question.now left.now sources.now node 0 384 result }
-{
-    let mut found = 0u128;
-    for part in 0..3 {
-        found |= leads_of(question, left, sources, node, part);
-    }
-    found
-}
-
-// The helper's chosen need, as a word, where its edge to the goal node weighs 0.
-fn last_lead(question: &Question, left: &[u64; 257], sources: &[Option<u8>; 257]) -> u128
-    requires fits { Fits question.now }
-    requires placed { Placed question.now sources.now }
-    ensures { Sources question.now left.now sources.now (question.now.nodes - 1) 0 384 result }
-{
-    let helper = question.actions - 1;
-    if let Some(source) = sources[helper] {
-        if left[helper] == 0 {
-            return 1 << source;
+    let mut grew = false;
+    for action in 0..question.actions {
+        if goal_step(question, left, sources, zone, action) {
+            grew = true;
         }
     }
-    0
+    grew
 }
 
-// The goal node and all nodes that lead to it over edges of weight 0: a fresh node joins the zone, and those that lead to it are fresh unless in the zone.
-pub(crate) fn goal_zone(question: &Question, left: &[u64; 257], sources: &[Option<u8>; 257]) -> u128
+// The goal node and all nodes that lead to it over edges of weight 0.
+pub(crate) fn goal_zone(
+    question: &Question,
+    left: &[u64; 257],
+    sources: &[Option<usize>; 257],
+) -> [bool; 129]
     requires fits { Fits question.now }
     requires placed { Placed question.now sources.now }
     requires modest { Modest left.now }
-    ensures { (i : ℕ) → in_zone (zone_of question.now true result) i ≡ in_zone (goal_zone (relaxed_of question.now) (edges_in question.now left.now sources.now)) i }
+    ensures { (i : ℕ) → in_zone result i ≡ in_zone (goal_zone (relaxed_of question.now) (edges_in question.now left.now sources.now)) i }
 {
-    let mut zone = 0u128;
-    let mut fresh = last_lead(question, left, sources);
-    while fresh != 0 {
-        let node = fresh.trailing_zeros();
-        zone |= 1 << node;
-        let found = fresh | leads(question, left, sources, node as usize);
-        fresh = found ^ (found & zone);
-    }
+    let mut zone = [false; 129];
+    zone[question.nodes - 1] = true;
+    while goal_pass(question, left, sources, &mut zone) {}
     zone
 }
 
 // The nodes that hold.
-fn held(question: &Question) -> u128
+fn held(question: &Question) -> [bool; 129]
     requires { Fits question.now }
-    ensures { (i : ℕ) → in_zone (zone_of question.now false result) i ≡ in_zone (take question.now.nodes question.now.holds) i }
+    ensures { (i : ℕ) → in_zone result i ≡ in_zone (take question.now.nodes question.now.holds) i }
 {
-    let mut zone = 0u128;
-    for node in 0..question.nodes - 1 {
-        if question.holds[node] {
-            zone |= 1 << node;
-        }
+    let mut zone = [false; 129];
+    for node in 0..question.nodes {
+        zone[node] = question.holds[node];
     }
     zone
 }
 
-// For each action that starts in a zone, adds the nodes that it reaches outside the goal zone.
-fn start_pass(question: &Question, sources: &[Option<u8>; 257], near: u128, from: u128) -> u128
+// Adds the nodes that an action reaches outside the goal zone, if it starts in the zone; says whether one is new.
+fn start_step(
+    question: &Question,
+    sources: &[Option<usize>; 257],
+    near: &[bool; 129],
+    zone: &mut [bool; 129],
+    action: usize,
+) -> bool
     requires fits { Fits question.now }
     requires placed { Placed question.now sources.now }
-    ensures { Stepped question.now false (joins question.now sources.now (zone_of question.now true near)) (Closed (joins question.now sources.now (zone_of question.now true near)) question.now.nodes) from result }
+    requires inside { action < question.now.actions }
+    ensures { Stepped (joins question.now sources.now near.now) question.now.nodes (Joined question.now sources.now near.now action) zone.old zone.new result }
 {
-    let mut zone = from;
-    for action in 0..question.actions {
-        if starts(sources, zone, action) {
-            let reach = question.reach[action];
-            zone |= reach ^ (reach & near);
+    if !starts(sources, zone, action) {
+        return false;
+    }
+    let mut grew = false;
+    for node in 0..question.nodes {
+        let forbidden = near[node];
+        if !forbidden && !zone[node] && question.edge(action, node).is_some() {
+            zone[node] = true;
+            grew = true;
         }
     }
-    zone
+    grew
+}
+
+// One step for each action.
+fn start_pass(
+    question: &Question,
+    sources: &[Option<usize>; 257],
+    near: &[bool; 129],
+    zone: &mut [bool; 129],
+) -> bool
+    requires fits { Fits question.now }
+    requires placed { Placed question.now sources.now }
+    ensures { Stepped (joins question.now sources.now near.now) question.now.nodes (Closed (joins question.now sources.now near.now) question.now.nodes) zone.old zone.new result }
+{
+    let mut grew = false;
+    for action in 0..question.actions {
+        if start_step(question, sources, near, zone, action) {
+            grew = true;
+        }
+    }
+    grew
 }
 
 // The nodes that hold, and what edges reach from the ground and these without entering the goal zone.
-pub(crate) fn start_zone(question: &Question, sources: &[Option<u8>; 257], near: u128) -> u128
+pub(crate) fn start_zone(
+    question: &Question,
+    sources: &[Option<usize>; 257],
+    near: &[bool; 129],
+) -> [bool; 129]
     requires fits { Fits question.now }
     requires placed { Placed question.now sources.now }
-    ensures { (rs : List ℕ) (i : ℕ) → in_zone (zone_of question.now false result) i ≡ in_zone (start_zone (relaxed_of question.now) (edges_in question.now rs sources.now) (zone_of question.now true near)) i }
+    ensures { (rs : List ℕ) (i : ℕ) → in_zone result i ≡ in_zone (start_zone (relaxed_of question.now) (edges_in question.now rs sources.now) near.now) i }
 {
     let mut zone = held(question);
-    loop {
-        let next = start_pass(question, sources, near, zone);
-        if next == zone {
-            return zone;
-        }
-        zone = next;
-    }
+    while start_pass(question, sources, near, &mut zone) {}
+    zone
 }

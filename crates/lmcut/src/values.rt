@@ -1,13 +1,12 @@
 // The node values of a round, found lowest first: an action makes its offers once, when the last of its needs leaves the open
 // nodes. The goal node is needed by no action, so it takes offers but is never open.
-ghost use Rattle.std.specs.Prelude.{◌≡◌, ◌+◌, ◌*◌, ◌<◌, ◌≤◌};
+ghost use Rattle.std.specs.Prelude.{◌≡◌, ◌*◌, ◌<◌, ◌≤◌};
 ghost use Rattle.lmcut.specs.Questions.{Fits};
 ghost use Rattle.lmcut.specs.Drawn.{Modest};
-ghost use Rattle.lmcut.specs.Valued.{edge_weight, most_weight, FiredTo, ready_at, fires_at, infinite, ReachedTo, ReachedOn, Begun, Opened, Valued};
+ghost use Rattle.lmcut.specs.Valued.{edge_weight, most_weight, FiredTo, fires_at, infinite, ReachedTo, Begun, AllOpen, Valued};
 ghost use Rattle.lmcut.specs.Queued.{orders, Queued, Requeued, put, Blank};
 ghost use Rattle.order.specs.Laws.{Lawful};
 
-use crate::bits::*;
 use crate::question::{Edge, Question};
 use order::Heap;
 
@@ -64,19 +63,27 @@ fn offer(
     }
 }
 
-// The values before any action: 0 for a node that holds, else infinite. The nodes below the goal node that do not hold are open.
-fn begin(question: &Question, values: &mut [u64; 129]) -> u128
-    requires { (Fits question.now) × (Blank values.old) }
+// The values before any action: 0 for a node that holds, else infinite.
+fn begin(question: &Question, open: u128, values: &mut [u64; 129], heap: &mut Heap<'_, Node>)
+    requires { (Fits question.now) × ((Blank values.old) × (Queued values.old «open» question.now.nodes heap.old)) }
     ensures begun { Begun question.now values.new }
-    ensures opened { Opened question.now result }
+    ensures queued { Queued values.new «open» question.now.nodes heap.new }
+{
+    for node in 0..question.nodes {
+        if question.holds[node] {
+            offer(open, question.nodes, node, 0, values, heap);
+        }
+    }
+}
+
+// A word with the first `count` bits set.
+fn all_open(count: usize) -> u128
+    requires { count ≤ 128 }
+    ensures { AllOpen count result }
 {
     let mut open = 0u128;
-    for node in 0..question.nodes - 1 {
-        if question.holds[node] {
-            values[node] = 0;
-        } else {
-            open |= 1 << node;
-        }
+    for node in 0..count {
+        open |= 1 << node;
     }
     open
 }
@@ -95,68 +102,48 @@ fn fire(
     ensures fired { FiredTo question.now action left top question.now.nodes values.old values.new }
     ensures queued { Queued values.new «open» question.now.nodes heap.new }
 {
-    for node in Bits::new(question.reach[action]) {
-        let edge = question.inner(action, node);
-        offer(
-            open,
-            question.nodes,
-            node,
-            top + weight(left, edge),
-            values,
-            heap,
-        );
-    }
-    if action + 1 == question.actions {
-        offer(
-            open,
-            question.nodes,
-            question.nodes - 1,
-            top + left,
-            values,
-            heap,
-        );
-    }
-}
-
-// The offers at the start, with value 0, of the actions that need no open node.
-fn settle_first(
-    question: &Question,
-    left: &[u64; 257],
-    open: u128,
-    values: &mut [u64; 129],
-    heap: &mut Heap<'_, Node>,
-)
-    requires { (Fits question.now) × ((Modest left.now) × (Queued values.old «open» question.now.nodes heap.old)) }
-    ensures reached { ReachedTo question.now left.now (ready_at question.now «open») 0 question.now.actions values.old values.new }
-    ensures queued { Queued values.new «open» question.now.nodes heap.new }
-{
-    for action in 0..question.actions {
-        if question.needs[action] & open == 0 {
-            fire(question, action, left[action], open, 0, values, heap);
+    for node in 0..question.nodes {
+        if let Some(edge) = question.edge(action, node) {
+            offer(
+                open,
+                question.nodes,
+                node,
+                top + weight(left, edge),
+                values,
+                heap,
+            );
         }
     }
 }
 
-// The offers of those of the 128 actions of a part that need a node, where it was the last of their needs to leave the open nodes.
-fn settle_part(
+// Whether the last need of an action to leave the open nodes is `node`; at the start, whether it has no needs.
+fn fires(question: &Question, open: u128, first: bool, node: usize, action: usize) -> bool
+    requires { (action < 257) × (node < 128) }
+    ensures { result ≡ fires_at question.now «open» first node action }
+{
+    let needs = question.needs[action];
+    if needs & open != 0 {
+        return false;
+    }
+    first || (needs >> node) & 1 == 1
+}
+
+// The offers of the actions whose last need has just left the open nodes, with its value.
+fn settle(
     question: &Question,
     left: &[u64; 257],
     open: u128,
+    first: bool,
     last: Node,
-    part: usize,
     values: &mut [u64; 129],
     heap: &mut Heap<'_, Node>,
 )
-    requires fits { Fits question.now }
-    requires modest { Modest left.now }
-    requires inside { (last.number < 128) × ((last.value ≤ 129 * most_weight) × (part < 3)) }
-    requires queued { Queued values.old «open» question.now.nodes heap.old }
-    ensures reached { ReachedOn question.now left.now (fires_at question.now «open» last.number) last.value (128 * part) (128 * part + 128) values.old values.new }
+    requires { (Fits question.now) × ((Modest left.now) × ((last.number < 128) × ((last.value ≤ 129 * most_weight) × (Queued values.old «open» question.now.nodes heap.old)))) }
+    ensures reached { ReachedTo question.now left.now (fires_at question.now «open» first last.number) last.value question.now.actions values.old values.new }
     ensures queued { Queued values.new «open» question.now.nodes heap.new }
 {
-    for bit in Bits::new(question.needing[last.number as usize][part]) {
-        let action = 128 * part + bit;
-        if question.needs[action] & open == 0 {
+    for action in 0..question.actions {
+        if fires(question, open, first, last.number as usize, action) {
             fire(
                 question,
                 action,
@@ -167,24 +154,6 @@ fn settle_part(
                 heap,
             );
         }
-    }
-}
-
-// The offers of the actions whose last need has just left the open nodes, with its value.
-fn settle(
-    question: &Question,
-    left: &[u64; 257],
-    open: u128,
-    last: Node,
-    values: &mut [u64; 129],
-    heap: &mut Heap<'_, Node>,
-)
-    requires { (Fits question.now) × ((Modest left.now) × ((last.number < 128) × ((last.value ≤ 129 * most_weight) × (Queued values.old «open» question.now.nodes heap.old)))) }
-    ensures reached { ReachedTo question.now left.now (fires_at question.now «open» last.number) last.value question.now.actions values.old values.new }
-    ensures queued { Queued values.new «open» question.now.nodes heap.new }
-{
-    for part in 0..3 {
-        settle_part(question, left, open, last, part, values, heap);
     }
 }
 
@@ -200,11 +169,12 @@ pub(crate) fn values(question: &Question, left: &[u64; 257]) -> [u64; 129]
     let mut values = [INFINITE; 129];
     let mut room = [none; 129];
     let mut heap = Heap::new(&mut room);
-    let mut open = begin(question, &mut values);
-    settle_first(question, left, open, &mut values, &mut heap);
+    let mut open = all_open(question.nodes - 1);
+    begin(question, open, &mut values, &mut heap);
+    settle(question, left, open, true, none, &mut values, &mut heap);
     while let Some(node) = heap.pop() {
         open = open ^ (open & (1 << node.number));
-        settle(question, left, open, node, &mut values, &mut heap);
+        settle(question, left, open, false, node, &mut values, &mut heap);
     }
     values
 }

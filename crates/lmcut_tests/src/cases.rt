@@ -2,7 +2,7 @@
 use estimate::estimate::*;
 use estimate::estimator::Estimator;
 use landmarks::*;
-use lmcut::estimator::*;
+use lmcut_words::estimator::*;
 use std::alloc::Global;
 use std::process::Abort;
 use std::test::Fail;

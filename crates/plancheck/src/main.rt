@@ -4,8 +4,6 @@
 use estimate::estimate::Estimate;
 use estimate::estimator::Estimator;
 use estimate::simple::*;
-use landmarks::Ground;
-use lmcut::estimator::*;
 use tables::fault::TaskFault;
 use tables::*;
 use task::accepted::Task;
@@ -104,50 +102,16 @@ fn say_estimate<E: Estimator>(
     Ok(())
 }
 
-// Prints the landmark records behind LM-cut's answer about a state.
-fn say_grounds(rt: &impl Print, task: &Task, state: &State) -> anyhow::Result<()> {
-    let mut records = [Ground {
-        round: 0,
-        weight: 0,
-        number: 0,
-        charge: 0,
-    }; 4];
-    match LmCut.grounds(task, state, &mut records) {
-        Ok(count) => {
-            for ground in records.iter().take(count) {
-                say_ground(rt, *ground)?;
-            }
-        }
-        Err(fault) => {
-            let number = fault.number();
-            println!(rt; "    records refused: rule {number}")?;
-        }
-    }
-    Ok(())
-}
-
-fn say_ground(rt: &impl Print, ground: Ground) -> anyhow::Result<()> {
-    let round = ground.round;
-    let weight = ground.weight;
-    let number = ground.number;
-    let name = name_of(number);
-    let charge = ground.charge;
-    println!(rt; "    round {round} of weight {weight}: move {number} {name} is charged {charge}")?;
-    Ok(())
-}
-
-// Prints what each estimator answers about a state, LM-cut with its landmark records.
+// Prints what each estimator answers about a state.
 fn say_estimates(rt: &impl Print, task: &Task, state: &State) -> anyhow::Result<()> {
     say_estimate(rt, "zero", &Zero, task, state)?;
     say_estimate(rt, "floor", &Floor, task, state)?;
-    say_estimate(rt, "LM-cut", &LmCut, task, state)?;
-    say_grounds(rt, task, state)?;
     say_estimate(
         rt,
-        "larger of floor and LM-cut",
+        "larger of both",
         &LargerOf {
-            first: Floor,
-            second: LmCut,
+            first: Zero,
+            second: Floor,
         },
         task,
         state,

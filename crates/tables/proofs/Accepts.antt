@@ -1,11 +1,11 @@
 -- A task is accepted exactly when its tables keep the rules.
-use Rattle.std.proofs.Common.{◌≡◌, ℕ, ◌+◌, ◌^◌, ◌<◌, ◌≤◌, Bool, true, false, cond, not, ◌&&◌, ◌||◌, T, eqb, ltb, leb, ◌⊎◌, List, [], ◌∷◌, length, ℤ, pos, nat_abs, ◌≤ℤ◌, is_some, is_ok, Some, None, Decides, Option, sym, refl, ap, ◌∙◌, subst, inl, inr, ⊎_elim, arith}
+use Rattle.std.proofs.Common.{◌≡◌, ℕ, ◌+◌, ◌^◌, ◌<◌, ◌≤◌, Bool, true, false, cond, not, ◌&&◌, T, eqb, ltb, leb, ◌⊎◌, List, [], ◌∷◌, length, ℤ, pos, nat_abs, ◌≤ℤ◌, is_some, is_ok, Some, None, Decides, Option, refl, ap, ◌∙◌, inl, inr, ⊎_elim, arith}
 use lib.Signed.{le_z}
-use Rattle.std.proofs.lemmas.Bool.{true≢false, leb-true, ltb-true, le-leb, lt-ltb, eqb-true, eq-eqb, ne_eqb, eqb-false, and_parts, and_from, or_cases, or_parts, or_from, cases_Bool, cond-true, cond-false, not-true, not-false, not_from_false, false≢true, cond_both, cases_eq}
+use Rattle.std.proofs.lemmas.Bool.{true≢false, leb-true, ltb-true, le-leb, lt-ltb, eqb-true, ne_eqb, eqb-false, and_from, or_parts, or_from, not-true, not_from_false, false≢true, cond_both, cases_eq}
 use Rattle.std.proofs.lemmas.Bool.Decides.{nat_tests, Decides-and, Decides-or, Decides-eqb}
 use Rattle.std.specs.List.{AllByRecursion as All}
 use Rattle.tables.specs.Chains.{Visit, link, missing, visits, links_of, chain}
-use Rattle.tables.specs.Check.{told, ◌or◌, unless, owned, at_link, among, also, within, in_range, quantity_keeps, kind_fits, subject_fits, amount_fits, next_fits, names_quantity, link_fault, visits_fault, chain_fault, each_fault, sizes_fault, quantity_fault, condition_fault, move_fault, goal_fault, first_fault, accepted}
+use Rattle.tables.specs.Check.{told, ◌or◌, unless, owned, at_link, among, also, quantity_keeps, kind_fits, subject_fits, amount_fits, next_fits, names_quantity, link_fault, visits_fault, chain_fault, each_fault, sizes_fault, quantity_fault, condition_fault, move_fault, first_fault, accepted}
 use Rattle.tables.specs.Problem.{Problem}
 use Rattle.tables.specs.Rules.{QuantityKeeps, KindOf, LinkKeeps, VisitKeeps, quantities_of, Once, ChainKeeps, ConditionKeeps, MoveKeeps, Keeps}
 use Rattle.tables.specs.declared.Quantity as quantity
@@ -17,7 +17,7 @@ use Rattle.tables.specs.declared.Role.TheVariants.{Terms, Needs, Effects}
 use Rattle.tables.specs.declared.fault.LinkFault.{LinkFault}
 use Rattle.tables.specs.declared.fault.ChainFault.{ChainFault}
 use Rattle.tables.specs.declared.fault.TaskFault.{TaskFault}
-use Rattle.tables.proofs.Checked.{some_none, or_none, unless_none, or_skip, Passed, passed, next_cases, tests_pass}
+use Rattle.tables.proofs.Checked.{some_none, or_none, unless_none, or_skip, passed, next_cases, tests_pass}
 
 -- no fault is told exactly where a fact holds
 abbrev pub Clear : {F : Type 0} → Option F → Type 0 → Type 0

@@ -1,15 +1,14 @@
 -- The check of one chain, link by link: what has been seen, and that what is left gives the chain's first fault.
-use Rattle.std.proofs.Common.{◌≡◌, ℕ, ◌+◌, ◌-◌, ◌<◌, ◌≤◌, Bool, true, false, cond, not, ◌&&◌, eqb, ltb, leb, ◌⊎◌, List, [], ◌∷◌, length, get_or, drop, set, replicate, is_some, Some, None, Ok, Err, Option, Result, sym, refl, ap, ◌∙◌, inl, inr, ⊎_elim, arith}
+use Rattle.std.proofs.Common.{◌≡◌, ℕ, ◌+◌, ◌-◌, ◌<◌, ◌≤◌, Bool, true, false, cond, not, ◌&&◌, eqb, ltb, leb, ◌⊎◌, List, [], ◌∷◌, length, get_or, drop, set, replicate, is_some, Some, None, Ok, Err, Option, sym, refl, ap, ◌∙◌, inl, inr, ⊎_elim, arith}
 use Rattle.std.proofs.lemmas.List.{length-set}
 use Rattle.std.proofs.lemmas.Bool.{true≢false, eqb-true, ltb-true, leb-true, or_cases, and_parts, cond-true, cond-false}
-use Rattle.tables.specs.Chains.{Visit, link, missing, visits, visits_from}
+use Rattle.tables.specs.Chains.{visits, visits_from}
 use Rattle.tables.specs.Check.{among, also, names_quantity, kind_fits, subject_fits, amount_fits, next_fits, told, unless, ◌or◌, link_fault, at_link, visits_fault, chain_fault}
 use Rattle.tables.specs.Problem.{Problem}
 use Rattle.tables.specs.declared.Link.{Link}
 use Rattle.tables.specs.declared.Role.{Role}
 use Rattle.tables.specs.declared.fault.LinkFault.{LinkFault}
 use Rattle.tables.specs.declared.fault.LinkFault.TheVariants.{Missing, Kind, Subject, Amount, Repeated, Next}
-use Rattle.tables.specs.declared.fault.ChainFault.{ChainFault}
 use Rattle.tables.proofs.Marks.{Marks, marks_also, marks_none}
 use Rattle.tables.proofs.Walks.{visits_none, visits_missing, visits_met, visits_on, walk_falls}
 

@@ -9,7 +9,6 @@
 use Rattle.std.specs.Prelude.{ℕ}
 use Rattle.tables.specs.declared.fault.LinkFault.{LinkFault}
 use Rattle.tables.specs.declared.fault.LinkFault.TheVariants.{Missing, Kind, Subject, Amount, Repeated, Next}
-use Rattle.tables.specs.declared.fault.ChainFault.{ChainFault}
 use Rattle.tables.specs.declared.fault.Table.{Table}
 use Rattle.tables.specs.declared.fault.Table.TheVariants.{Quantities, Conditions, Moves, Links}
 use Rattle.tables.specs.declared.fault.TaskFault.{TaskFault}

@@ -9,7 +9,7 @@
 --   ChainKeeps      the chain from number n: every link keeps the rules, and no quantity is named twice
 --   ConditionKeeps, MoveKeeps   a record's own fields and its chains
 --   Keeps           the tables keep all rules
-use Rattle.std.specs.Prelude.{◌≡◌, ℕ, ◌^◌, ◌<◌, ◌≤◌, cond, ◌⊎◌, List, [], ◌∷◌, length, ℤ, pos, ◌≤ℤ◌, ◌≢◌, unsigned_abs}
+use Rattle.std.specs.Prelude.{◌≡◌, ℕ, ◌^◌, ◌<◌, ◌≤◌, cond, ◌⊎◌, List, [], ◌∷◌, length, pos, ◌≤ℤ◌, ◌≢◌, unsigned_abs}
 use Rattle.std.specs.List.{AllByRecursion as All}
 use Rattle.tables.specs.Chains.{Visit, link, missing, visits, chain}
 use Rattle.tables.specs.Check.{names_quantity}

@@ -1,5 +1,5 @@
 -- Going along a chain of an accepted task: what is known of the links that are still to come.
-use Rattle.std.proofs.Common.{◌≡◌, ℕ, ◌+◌, ◌-◌, ◌*◌, ◌<◌, ◌≤◌, true, eqb, ◌⊎◌, List, [], ◌∷◌, length, ℤ, pos, ◌*ℤ◌, nat_abs, ◌≤ℤ◌, Some, None, fold, sym, refl, ap, ◌∙◌, subst, ap₂, subst₂, inl, inr, ⊎_elim, arith, w32, SFits}
+use Rattle.std.proofs.Common.{◌≡◌, ℕ, ◌+◌, ◌-◌, ◌*◌, ◌<◌, ◌≤◌, true, eqb, List, [], ◌∷◌, length, ℤ, pos, ◌*ℤ◌, nat_abs, ◌≤ℤ◌, Some, None, fold, sym, ap, ◌∙◌, subst, ap₂, subst₂, inl, ⊎_elim, arith, w32, SFits}
 use Rattle.std.proofs.lemmas.Nat.{mul-le}
 use Rattle.std.proofs.ByRecursion.{All-get_or}
 use Rattle.std.proofs.lemmas.Bool.{cond_both, eqb-false, and_parts}
@@ -8,13 +8,13 @@ use lib.Signed.{le_z}
 use Rattle.std.specs.List.{AllByRecursion as All}
 use Rattle.tables.specs.Chains.{Visit, link, missing, visits, links_of, chain}
 use Rattle.tables.specs.Problem.{Problem}
-use Rattle.tables.specs.Rules.{LinkKeeps, LinkFits, VisitKeeps, ChainKeeps, QuantityKeeps, ConditionKeeps, MoveKeeps, Keeps}
+use Rattle.tables.specs.Rules.{LinkFits, VisitKeeps, ChainKeeps, QuantityKeeps, ConditionKeeps, MoveKeeps, Keeps}
 use Rattle.task.specs.Walk.{Leads, Walkable, Stepped, steps_left}
 use Rattle.task.specs.States.{quantity_at, condition_at, move_at, value_of, add_term, total}
 use Rattle.task.specs.Tasks.{problem}
 use Rattle.task.specs.declared.accepted.Task.{Task}
 use Rattle.task.specs.declared.state.State.{State}
-use Rattle.tables.specs.declared.Role.TheVariants.{Terms, Needs, Effects}
+use Rattle.tables.specs.declared.Role.TheVariants.{Terms, Needs}
 use Rattle.tables.proofs.Accepts.{decides_accepted, decides_int_le}
 use Rattle.task.proofs.Ints.{nat_abs_add, size_fits32}
 use Rattle.tables.specs.Check.{in_range}

@@ -1,16 +1,16 @@
 -- The effects of a move, each quantity named at most once: what they add to a quantity, and the facts they set and clear.
-use Rattle.std.proofs.Common.{◌≡◌, ℕ, ◌+◌, ◌-◌, ◌^◌, ◌<◌, ◌≤◌, Bool, true, false, cond, not, ◌&&◌, ◌||◌, eqb, ◌⊎◌, List, [], ◌∷◌, length, get_or, set, ℤ, pos, ◌+ℤ◌, fold, sym, refl, ap, ◌∙◌, subst, ap₂, inl, inr, ⊎_elim, arith}
-use lib.Bits.{bit_and, bit_or, bit_xor, or_lt}
+use Rattle.std.proofs.Common.{◌≡◌, ℕ, ◌-◌, ◌^◌, ◌<◌, ◌≤◌, Bool, true, false, cond, ◌&&◌, ◌||◌, eqb, ◌⊎◌, List, [], ◌∷◌, length, get_or, set, ℤ, pos, ◌+ℤ◌, fold, sym, refl, ap, ◌∙◌, subst, inl, inr, ⊎_elim, arith}
+use lib.Bits.{bit_or, or_lt}
 use lib.IntN.{+ℤ_idr}
 use Rattle.std.proofs.lemmas.Nat.{pow_below}
 use Rattle.std.proofs.lemmas.List.{get_or-set_same, get_or-set_other, length-set}
-use Rattle.std.proofs.lemmas.Bool.{eq-eqb, ne_eqb, eqb-true, eqb-false, cond-true, cond-false, cond_both, cases_eq, cases_Bool, and_from, and_left, and_right, and_parts, or_left, or_from}
+use Rattle.std.proofs.lemmas.Bool.{eq-eqb, ne_eqb, eqb-true, cond-true, cond-false, cond_both, cases_eq, cases_Bool, and_from, and_parts}
 use Rattle.std.specs.List.{AllByRecursion as All}
-use Rattle.tables.specs.Check.{among, names_quantity, in_range}
+use Rattle.tables.specs.Check.{names_quantity, in_range}
 use Rattle.task.specs.Meaning.{names, change}
 use Rattle.tables.specs.Problem.{Problem}
-use Rattle.tables.specs.Rules.{LinkFits, quantities_of, Once, Keeps}
-use Rattle.task.specs.States.{fact_holds, value_of, quantity_at, changed, stays, noted, made, cleared, put, values_after}
+use Rattle.tables.specs.Rules.{LinkFits, quantities_of, Once}
+use Rattle.task.specs.States.{fact_holds, value_of, quantity_at, changed, stays, noted, put}
 use Rattle.task.specs.declared.state.State.{State}
 use Rattle.tables.specs.declared.Link.{Link}
 use Rattle.tables.specs.declared.Role.TheVariants.{Effects}

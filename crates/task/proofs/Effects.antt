@@ -1,18 +1,18 @@
 -- The effects of a move, link by link: what has been noted, and that the rest gives the whole.
-use Rattle.std.proofs.Common.{◌≡◌, ℕ, ◌+◌, ◌-◌, ◌^◌, ◌<◌, ◌≤◌, Bool, true, false, cond, ◌&&◌, eqb, ◌⊎◌, List, [], ◌∷◌, length, set, ℤ, pos, Some, None, fold, Option, sym, refl, ap, ◌∙◌, subst, ap₂, inl, inr, ⊎_elim, arith, pow_mono}
+use Rattle.std.proofs.Common.{◌≡◌, ℕ, ◌-◌, ◌^◌, ◌<◌, ◌≤◌, Bool, true, false, ◌&&◌, eqb, ◌⊎◌, List, [], length, set, ℤ, Some, None, fold, Option, sym, ap, ◌∙◌, ap₂, inr, arith}
 use lib.Bits.{bit_and, bit_or, bit_xor, or_lt}
 use Rattle.std.proofs.lemmas.List.{length-set}
 use Rattle.std.proofs.lemmas.Nat.{pow_below}
-use Rattle.std.proofs.lemmas.Bool.{eq-eqb, ne_eqb, cond-true, cond-false, and_left}
+use Rattle.std.proofs.lemmas.Bool.{eq-eqb, ne_eqb, cond-true, cond-false}
 use Rattle.tables.specs.Chains.{chain}
 use Rattle.tables.specs.Check.{in_range}
 use Rattle.tables.specs.Problem.{Problem}
-use Rattle.tables.specs.Rules.{ChainKeeps, LinkFits, Keeps}
+use Rattle.tables.specs.Rules.{LinkFits, Keeps}
 use Rattle.task.specs.States.{quantity_at, changed, stays, noted, made, cleared, put, values_after, moved, after_effects}
 use Rattle.task.specs.declared.state.State.{State}
 use Rattle.tables.specs.declared.Link.{Link}
 use Rattle.tables.specs.declared.Role.TheVariants.{Effects}
-use Rattle.task.proofs.Along.{Going, Gone, going_start}
+use Rattle.task.proofs.Along.{Going, Gone}
 
 pub record Effected (p : Problem) (s : State) (whole : List Link) (ls : List Link) (n : ℕ) (values : List ℤ) (sets clears : ℕ) : Type 0 where
   pub going : Going p Effects ls n

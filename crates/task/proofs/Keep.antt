@@ -1,19 +1,19 @@
 -- The laws of states and moves: the start state is a state, an allowed move leads from a state to a state, and moves mean what
 -- the subject means by them.
-use Rattle.std.proofs.Common.{◌≡◌, ℕ, zero, suc, ◌+◌, ◌-◌, ◌/◌, ◌%◌, ◌^◌, ◌<◌, ◌≤◌, Bool, true, false, cond, not, ◌&&◌, ◌||◌, eqb, ltb, leb, ◌⊎◌, List, [], ◌∷◌, ◌++◌, map, length, get_or, set, replicate, ℤ, pos, ◌+ℤ◌, Some, Decides, fold, sym, refl, ap, ◌∙◌, subst, ap₂, inl, inr, ⊎_elim, arith}
+use Rattle.std.proofs.Common.{◌≡◌, ℕ, zero, suc, ◌+◌, ◌-◌, ◌%◌, ◌^◌, ◌<◌, ◌≤◌, Bool, true, false, cond, not, ◌&&◌, ◌||◌, eqb, ltb, List, [], ◌∷◌, ◌++◌, map, length, get_or, set, replicate, ℤ, pos, ◌+ℤ◌, Some, fold, sym, refl, ap, ◌∙◌, subst, ap₂, inl, ⊎_elim, arith}
 use native.Mathlib.Nat.{zero-div}
-use lib.Bits.{bit_and, bit_or, bit_xor, or_lt, xor_lt, and_lt}
+use lib.Bits.{bit_and, bit_xor, or_lt, xor_lt}
 use lib.IntN.{+ℤ_idr}
 use Rattle.std.proofs.lemmas.Nat.{and_le_l, pow_pos}
 use Rattle.std.proofs.ByRecursion.{All-get_or}
 use Rattle.std.proofs.lemmas.List.{get_or-map, get_or_append_left, get_or-append_right, get_or-replicate, length-map, length-append, length-replicate, length-set}
-use Rattle.std.proofs.lemmas.Bool.{and_parts, and_from, ltb-true, ltb-false, lt-ltb, le-ltb, eqb-true, eq-eqb, leb-true, le-leb, cond-true, cond-false, cases_lt}
+use Rattle.std.proofs.lemmas.Bool.{and_parts, and_from, ltb-true, lt-ltb, le-ltb, eqb-true, eq-eqb, leb-true, le-leb, cond-true, cond-false, cases_lt}
 use Rattle.tables.specs.Chains.{chain}
 use Rattle.tables.specs.Check.{in_range}
 use Rattle.task.specs.Meaning.{names, change, effects_of, Allows, Follows, MovesMean}
 use Rattle.tables.specs.Problem.{Problem}
 use Rattle.tables.specs.Rules.{ChainKeeps, QuantityKeeps, Keeps}
-use Rattle.task.specs.States.{fact_holds, value_of, quantity_at, move_at, no_quantity, all_hold, stays, value_fits, values_fit, is_state, start_state, made, cleared, put, values_after, moved, allowed, result_of}
+use Rattle.task.specs.States.{fact_holds, value_of, quantity_at, move_at, no_quantity, stays, value_fits, values_fit, is_state, start_state, made, cleared, put, values_after, moved, allowed, result_of}
 use Rattle.task.specs.declared.state.State.{State}
 use Rattle.tables.specs.declared.Quantity.{Quantity}
 use Rattle.tables.specs.declared.Link.{Link}
@@ -21,7 +21,7 @@ use Rattle.tables.specs.declared.Role.TheVariants.{Effects}
 use Rattle.tables.proofs.Accepts.{decides_int_le}
 use Rattle.task.proofs.Along.{keeps_fit, move_keeps}
 use Rattle.task.proofs.Changes.{folded_holds, folded_below, adds_change, past_named, unnamed, stays_ranged, ranged_stays}
-use Rattle.tables.proofs.Checked.{under_some, some_same}
+use Rattle.tables.proofs.Checked.{under_some}
 use Rattle.task.proofs.Words.{holds_or, holds_without}
 
 -- ---- states, value by value

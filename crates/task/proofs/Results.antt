@@ -1,6 +1,6 @@
 -- When a move is allowed, and what it leads to.
-use Rattle.std.proofs.Common.{◌≡◌, ℕ, ◌<◌, ◌≤◌, Bool, true, false, cond, ◌&&◌, leb, ◌⊎◌, length, pos, is_some, Some, None, Option, sym, refl, ap, ◌∙◌, ⊎_elim}
-use Rattle.std.proofs.lemmas.Bool.{and_left, and_right, and_from, lt-leb, le-leb, cond-true, cond-false}
+use Rattle.std.proofs.Common.{◌≡◌, ℕ, ◌<◌, ◌≤◌, Bool, true, false, cond, ◌&&◌, leb, ◌⊎◌, length, pos, is_some, Some, None, sym, refl, ap, ⊎_elim}
+use Rattle.std.proofs.lemmas.Bool.{and_left, and_right, and_from, lt-leb, le-leb, cond-false}
 use Rattle.tables.specs.Chains.{chain}
 use Rattle.tables.specs.Problem.{Problem}
 use Rattle.task.specs.States.{gap, move_at, all_hold, stays, moved, after_effects, allowed, result_of}

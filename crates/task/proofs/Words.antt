@@ -1,10 +1,10 @@
 -- Words of facts: bit k of a word w is w / 2 ^ k % 2.
-use Rattle.std.proofs.Common.{◌≡◌, ℕ, ◌+◌, ◌-◌, ◌*◌, ◌/◌, ◌%◌, ◌^◌, ◌<◌, ◌≤◌, Bool, true, false, not, ◌&&◌, ◌||◌, eqb, ltb, leb, ◌⊎◌, sym, refl, ap, ◌∙◌, ap₂, inl, inr, ⊎_elim, one-mul, arith, pow_mono}
+use Rattle.std.proofs.Common.{◌≡◌, ℕ, ◌+◌, ◌-◌, ◌*◌, ◌/◌, ◌%◌, ◌^◌, ◌<◌, not, ◌&&◌, ◌||◌, eqb, ◌⊎◌, sym, ap, ◌∙◌, ap₂, inl, inr, ⊎_elim, one-mul, arith}
 use native.Mathlib.Nat.{div-eq_of_lt}
 use lib.Bits.{bit_and, bit_or, bit_xor}
-use Rattle.std.proofs.lemmas.Nat.{pow_pos, pow-add, pow_below, le-div, shl-shr, or_shr, and_shr, xor_shr, or_mod, and_mod, xor_mod}
+use Rattle.std.proofs.lemmas.Nat.{pow-add, pow_below, shl-shr, or_shr, and_shr, xor_shr, or_mod, and_mod, xor_mod}
 use Rattle.task.specs.States.{fact_holds}
-use Rattle.std.proofs.lemmas.Bool.{lt-ltb, le-ltb, le-leb, eq-eqb, ne_eqb, cases_lt, cases_order}
+use Rattle.std.proofs.lemmas.Bool.{eq-eqb, ne_eqb, cases_lt, cases_order}
 
 -- ---- bits of words that are made of others
 

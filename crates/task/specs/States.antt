@@ -20,7 +20,7 @@
 --   after_effects     that result, where every quantity that the effects change stays in its range
 --   allowed           a move of the table whose needs hold and whose changes stay in their ranges
 --   result_of         the result of a move where it is allowed
-use Rattle.std.specs.Prelude.{ℕ, ◌+◌, ◌-◌, ◌/◌, ◌%◌, ◌^◌, Bool, true, false, cond, ◌&&◌, List, [], ◌∷◌, ◌++◌, map, length, set, replicate, ℤ, pos, ◌+ℤ◌, ◌-ℤ◌, ◌*ℤ◌, Some, None, fold, Option, ◌==◌, bit_and, bit_or, bit_xor, int_le, nat_le, nat_lt, slice_index_or, slice_set}
+use Rattle.std.specs.Prelude.{ℕ, ◌+◌, ◌-◌, ◌/◌, ◌%◌, ◌^◌, Bool, true, cond, ◌&&◌, List, [], ◌∷◌, ◌++◌, map, length, replicate, ℤ, pos, ◌+ℤ◌, ◌-ℤ◌, ◌*ℤ◌, Some, None, fold, Option, ◌==◌, bit_and, bit_or, bit_xor, int_le, nat_le, nat_lt, slice_index_or, slice_set}
 use Rattle.tables.specs.Chains.{chain}
 use Rattle.tables.specs.Check.{in_range}
 use Rattle.tables.specs.Problem.{Problem}

@@ -4,18 +4,16 @@
 use Rattle.estimate.specs.Answers.{zero_answer, floor_answer}
 use Rattle.estimate.specs.Estimates.{larger}
 use Rattle.estimate.specs.declared.estimate.Estimate.{Estimate}
-use Rattle.landmarks.specs.Rounds.{estimate}
 use Rattle.tables.specs.Problem.{Problem}
 use Rattle.task.specs.declared.state.State.{State}
-use Rattle.script.specs.declared.estimators.Basic.{Basic}
-use Rattle.script.specs.declared.estimators.Basic.TheVariants.{Zero, Floor, LmCut}
-use Rattle.script.specs.declared.estimators.Asked.{Asked}
-use Rattle.script.specs.declared.estimators.Asked.TheVariants.{One, Larger}
+use Rattle.vectors.specs.declared.estimates.Basic.{Basic}
+use Rattle.vectors.specs.declared.estimates.Basic.TheVariants.{Zero, Floor}
+use Rattle.vectors.specs.declared.estimates.Asked.{Asked}
+use Rattle.vectors.specs.declared.estimates.Asked.TheVariants.{One, Larger}
 
 abbrev pub basic_answer : Basic → Problem → State → Estimate
 basic_answer Zero p s = zero_answer p s
 basic_answer Floor p s = floor_answer p s
-basic_answer LmCut p s = estimate p s
 
 abbrev pub asked_answer : Asked → Problem → State → Estimate
 asked_answer (One b) p s = basic_answer b p s

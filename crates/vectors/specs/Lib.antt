@@ -1,6 +1,6 @@
 pub mod Answers
 pub mod Asked
-pub mod Said
+pub mod Filled
 pub mod Texts
 pub mod Told
-pub mod NamedEstimatorLemmas
+pub mod Unread

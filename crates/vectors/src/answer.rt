@@ -1,13 +1,10 @@
 // What a directive is answered: one line of the output.
 ghost use Rattle.std.specs.Prelude.{◌≡◌, Some};
 ghost use Rattle.std.specs.Fmt.{WritesOnOk};
-ghost use Rattle.vectors.specs.Said.{seen};
 ghost use Rattle.vectors.specs.Told.{told_estimate};
-ghost use Rattle.vectors.specs.Texts.{text, task_fault_text, plan_fault_text, search_fault_text, ground_text, grounds_text};
+ghost use Rattle.vectors.specs.Texts.{text, task_fault_text, plan_fault_text};
 
 use estimate::estimate::Estimate;
-use landmarks::Ground;
-use lmcut::estimator::GroundsFault;
 use std::fmt;
 use tables::fault::TaskFault;
 use task::plan::PlanFault;
@@ -22,8 +19,6 @@ pub enum Answer {
     RefusedPlan(PlanFault),
     AtLeast(u64),
     Dead,
-    Grounds(Vec<Ground>),
-    RefusedSearch(GroundsFault),
     NothingAccepted,
     NotServed,
     BadLine(u64),
@@ -31,7 +26,7 @@ pub enum Answer {
 
 // The answer to a question to an estimator.
 pub fn told_estimate(estimate: Estimate) -> Answer
-    ensures { seen result ≡ told_estimate estimate }
+    ensures { result ≡ told_estimate estimate }
 {
     match estimate {
         Estimate::AtLeast(n) => Answer::AtLeast(n),
@@ -50,8 +45,6 @@ impl fmt::Display for Answer {
             Answer::RefusedPlan(fault) => show_plan_fault(*fault, f),
             Answer::AtLeast(n) => write!(f, "atleast {n}"),
             Answer::Dead => f.write_str("dead"),
-            Answer::Grounds(records) => show_grounds(records.as_slice(), f),
-            Answer::RefusedSearch(fault) => show_search_fault(*fault, f),
             Answer::NothingAccepted => f.write_str("nothing accepted"),
             Answer::NotServed => f.write_str("later"),
             Answer::BadLine(line) => write!(f, "malformed {line}"),
@@ -76,31 +69,4 @@ fn show_plan_fault<W: fmt::Write>(fault: PlanFault, f: &mut fmt::Formatter<W>) -
     let number = fault.number();
     let position = fault.position();
     write!(f, "refused plan {number} {position}")
-}
-
-fn show_search_fault<W: fmt::Write>(fault: GroundsFault, f: &mut fmt::Formatter<W>) -> fmt::Result
-    ensures { WritesOnOk W.Write.write_str_gives f.old result (search_fault_text fault) f.new }
-{
-    let number = fault.number();
-    write!(f, "refused search {number}")
-}
-
-// How many landmark records there are, then each of them.
-fn show_grounds<W: fmt::Write>(records: &[Ground], f: &mut fmt::Formatter<W>) -> fmt::Result
-    ensures { WritesOnOk W.Write.write_str_gives f.old result (grounds_text records.now) f.new }
-{
-    let count = records.len();
-    write!(f, "grounds {count}")?;
-    for ground in records {
-        show_ground(*ground, f)?;
-    }
-    Ok(())
-}
-
-fn show_ground<W: fmt::Write>(ground: Ground, f: &mut fmt::Formatter<W>) -> fmt::Result
-    ensures { WritesOnOk W.Write.write_str_gives f.old result (ground_text ground) f.new }
-{
-    let (round, weight) = (ground.round, ground.weight);
-    let (number, charge) = (ground.number, ground.charge);
-    write!(f, " ({round},{weight},{number},{charge})")
 }

@@ -1,35 +1,47 @@
-// The estimate layer: asks the estimator that the directive `est` names.
-ghost use Rattle.std.specs.Prelude.{◌≡◌};
+// The estimate layer: the directive `est` asks an estimator about a record.
+ghost use Rattle.std.specs.Prelude.{◌≡◌, refl};
 ghost use Rattle.task.specs.Tasks.{problem};
 ghost use Rattle.vectors.specs.Asked.{basic_answer, asked_answer};
-ghost use Rattle.vectors.specs.NamedEstimatorLemmas.{basic_sound, basic_plain};
+ghost use Rattle.std.proofs.Common.{arith};
+ghost use Rattle.estimate.specs.Cheapest.{floor_sound, floor_plain};
+ghost use Rattle.vectors.specs.declared.estimates.Basic.TheVariants.{Zero, Floor};
 
+use crate::directive::*;
+use crate::words::*;
 use estimate::estimate::Estimate;
 use estimate::estimator::Estimator;
 use estimate::simple::*;
-use lmcut::estimator::LmCut;
-use script::estimators::*;
 use task::accepted::Task;
 use task::state::State;
 
-// A named estimator that is made of no others, to be asked.
+// An estimator that is made of no others.
 #[derive(Clone, Copy)]
-pub struct Named {
-    basic: Basic,
+pub enum Basic {
+    Zero,
+    Floor,
 }
 
-impl Estimator for Named {
-    ghost answer = { λ n. basic_answer n.basic };
+// An estimator that a line names.
+#[derive(Clone, Copy)]
+pub enum Asked {
+    One(Basic),
+    Larger(Basic, Basic),
+}
 
-    ghost sound = { λ n p s a e. basic_sound n.basic p s a e };
+impl Estimator for Basic {
+    ghost answer = { basic_answer };
 
-    ghost plain = { λ n p s e. basic_plain n.basic p s e };
+    ghost sound = { elim [
+      | Zero ↦ λ p s a e. (omega arith, λ _ _. omega arith)
+      | Floor ↦ λ p s a e. floor_sound p s e
+    ] };
+
+    ghost plain = { elim [ Zero ↦ λ p s e. refl | Floor ↦ λ p s e. floor_plain p s e ] };
 
     fn ask(&self, task: &Task, state: &State) -> Estimate {
-        match self.basic {
+        match self {
             Basic::Zero => Zero.ask(task, state),
             Basic::Floor => Floor.ask(task, state),
-            Basic::LmCut => LmCut.ask(task, state),
         }
     }
 }
@@ -39,10 +51,46 @@ pub fn estimate_of(asked: Asked, task: &Task, state: &State) -> Estimate
     ensures { result ≡ asked_answer asked (problem task.now) state.now }
 {
     match asked {
-        Asked::One(basic) => Named { basic }.ask(task, state),
-        Asked::Larger(a, b) => {
-            let (first, second) = (Named { basic: a }, Named { basic: b });
-            LargerOf { first, second }.ask(task, state)
-        }
+        Asked::One(basic) => basic.ask(task, state),
+        Asked::Larger(first, second) => LargerOf { first, second }.ask(task, state),
+    }
+}
+
+// The estimator of a name; none for one that is known and not served yet.
+fn named(name: &str) -> Result<Option<Asked>, LineFault> {
+    match name {
+        "zero" => Ok(Some(Asked::One(Basic::Zero))),
+        "floor" => Ok(Some(Asked::One(Basic::Floor))),
+        "larger(zero,zero)" => Ok(Some(Asked::Larger(Basic::Zero, Basic::Zero))),
+        "larger(zero,floor)" => Ok(Some(Asked::Larger(Basic::Zero, Basic::Floor))),
+        "larger(floor,zero)" => Ok(Some(Asked::Larger(Basic::Floor, Basic::Zero))),
+        "larger(floor,floor)" => Ok(Some(Asked::Larger(Basic::Floor, Basic::Floor))),
+        "lmcut" | "larger(lmcut,lmcut)" | "larger(zero,lmcut)" => Ok(None),
+        "larger(floor,lmcut)" | "larger(lmcut,zero)" | "larger(lmcut,floor)" => Ok(None),
+        _ => Err(LineFault::Malformed),
+    }
+}
+
+// A record: the word of facts and sixteen values.
+fn read_state(words: &mut Words) -> Result<State, LineFault> {
+    let facts = words.number()?;
+    let mut values = [0; 16];
+    for i in 0..16 {
+        values[i] = words.number()?;
+    }
+    Ok(State { facts, values })
+}
+
+// `est E FACTS V1 .. V16`.
+pub(crate) fn read_est(mut words: Words) -> Result<Directive, LineFault> {
+    let Some(name) = words.word() else {
+        return Err(LineFault::Malformed);
+    };
+    let asked = named(name)?;
+    let state = read_state(&mut words)?;
+    words.finish()?;
+    match asked {
+        Some(asked) => Ok(Directive::Est(asked, state)),
+        None => Ok(Directive::Later),
     }
 }

@@ -2,42 +2,46 @@
 #![tactic(auto)]
 
 mod answer;
+mod block;
+mod directive;
 mod estimates;
-mod grounds;
 mod plans;
+mod records;
 mod serve;
+mod words;
 
-use script::block::*;
-use std::alloc::Global;
+use crate::answer::*;
+use crate::block::*;
+use crate::directive::*;
+use std::io;
 use std::io::{BufRead, BufReader, BufWriter, Write};
 
-// Writes the answers to all that a block asks, each on a line of its own.
-fn write_answers(out: &mut impl Write, heap: Global, block: &Block) -> anyhow::Result<()> {
-    let said = serve::answers(heap, block)?;
-    for answer in said.as_slice() {
+// Writes each answer on a line of its own.
+fn write_answers(out: &mut impl Write, said: &[Answer]) -> io::Result<()> {
+    for answer in said {
         writeln!(out, "{answer}")?;
     }
     Ok(())
 }
 
-// Takes in the whole input, line by line, with a block to fill. The answers to a block are written where a line ends it.
-fn take_all(out: &mut impl Write, rt: &HostRuntime, block: &mut Block) -> anyhow::Result<()> {
+fn run(rt: &HostRuntime) -> anyhow::Result<()> {
     let heap = rt.alloc();
+    let mut out = BufWriter::new(heap, rt.stdout())?;
+    let mut block = Block::new(heap);
     let mut number = 0u64;
     for bytes in BufReader::new(heap, rt.stdin())?.split(heap, b'\n') {
         number = number.saturating_add(1);
-        if block.take(heap, number, bytes?.as_slice())? {
-            write_answers(out, heap, block)?;
-            *block = Block::new(heap);
+        match read_line(heap, number, bytes?.as_slice())? {
+            Line::Blank => {}
+            Line::Fill(record) => block.fill(number, record)?,
+            Line::Ask(directive) => block.ask(directive)?,
+            Line::End => {
+                write_answers(&mut out, serve::answers(heap, &block)?.as_slice())?;
+                block = Block::new(heap);
+            }
         }
     }
-    write_answers(out, heap, block)
-}
-
-fn run(rt: &HostRuntime) -> anyhow::Result<()> {
-    let mut out = BufWriter::new(rt.alloc(), rt.stdout())?;
-    let mut block = Block::new(rt.alloc());
-    take_all(&mut out, rt, &mut block)?;
+    write_answers(&mut out, serve::answers(heap, &block)?.as_slice())?;
     out.flush()?;
     Ok(())
 }

@@ -3,13 +3,20 @@ ghost use Rattle.std.specs.Prelude.{◌≡◌};
 ghost use Rattle.task.specs.Plans.{plan_answer};
 ghost use Rattle.task.specs.Tasks.{problem};
 ghost use Rattle.vectors.specs.Answers.{told_plan};
-ghost use Rattle.vectors.specs.Said.{seen};
 
 use crate::answer::*;
+use crate::directive::*;
+use crate::words::*;
+use std::alloc::Global;
 use task::accepted::Task;
 
+// `check M1 M2 ..`: any number of moves.
+pub(crate) fn read_check(heap: Global, words: Words) -> Result<Directive, LineFault> {
+    Ok(Directive::Check(words.numbers(heap)?))
+}
+
 pub fn check(task: &Task, list: &[u32]) -> Answer
-    ensures { seen result ≡ told_plan (plan_answer (problem task.now) list.now) }
+    ensures { result ≡ told_plan (plan_answer (problem task.now) list.now) }
 {
     match task.check_plan(list) {
         Ok(cost) => Answer::Cost(cost),

@@ -4,27 +4,26 @@ ghost use Rattle.tables.specs.Check.{told, first_fault};
 ghost use Rattle.tables.specs.Problem.{contents};
 ghost use Rattle.task.specs.Tasks.{problem};
 ghost use Rattle.vectors.specs.Answers.{waiting, served, after_check, block_answers};
-ghost use Rattle.vectors.specs.Said.{seen};
-ghost use Rattle.script.specs.Filled.{filled, asks};
+ghost use Rattle.vectors.specs.Filled.{filled};
 
 use crate::answer::*;
+use crate::block::*;
+use crate::directive::*;
 use crate::estimates::*;
-use crate::{grounds, plans};
-use script::block::*;
-use script::directive::*;
+use crate::plans;
 use std::alloc::{AllocError, Global};
 use tables::Tables;
 use task::accepted::Task;
 
 // The answers to all that a block asks, in order.
 pub fn answers(heap: Global, block: &Block) -> Result<Vec<Answer>, AllocError>
-    ensures { IfOk result (λ v. map seen v.items ≡ block_answers (filled block.now) (asks block.now)) }
+    ensures { IfOk result (λ v. v.items ≡ block_answers (filled block.now) block.now.asked.items) }
 {
     let mut said = Vec::new(heap);
     let asked = block.asked();
     for (i, directive) in asked.iter().enumerate() {
         if let Directive::Accept = directive {
-            accept(heap, block.tables(), &asked[i..], &mut said)?;
+            accept(block.tables(), &asked[i + 1..], &mut said)?;
             return Ok(said);
         }
         said.push(before_accept(directive))?;
@@ -34,7 +33,7 @@ pub fn answers(heap: Global, block: &Block) -> Result<Vec<Answer>, AllocError>
 
 // The answer to a directive that comes before any `accept`.
 fn before_accept(directive: &Directive) -> Answer
-    ensures { seen result ≡ waiting directive.now }
+    ensures { result ≡ waiting directive.now }
 {
     match directive {
         Directive::Malformed(line) => Answer::BadLine(*line),
@@ -42,49 +41,41 @@ fn before_accept(directive: &Directive) -> Answer
     }
 }
 
-// Adds the answers from the first `accept` on. Where the tables are refused, it alone is answered.
-fn accept(
-    heap: Global,
-    tables: Tables,
-    rest: &[Directive],
-    said: &mut Vec<Answer>,
-) -> Result<(), AllocError>
-    ensures { OnOk result (map seen said.new.items ≡ map seen said.old.items ++ after_check (contents tables.entry) rest.now (told (first_fault (contents tables.entry)))) }
+// Adds the answers from the first `accept` on. Where the tables are refused, the rest is skipped.
+fn accept(tables: Tables, rest: &[Directive], said: &mut Vec<Answer>) -> Result<(), AllocError>
+    ensures { OnOk result (said.new.items ≡ said.old.items ++ after_check (contents tables.entry) rest.now (told (first_fault (contents tables.entry)))) }
 {
     match tables.check() {
         Err(fault) => {
             said.push(Answer::RefusedTask(fault))?;
             Ok(())
         }
-        Ok(()) => serve_all(heap, &Task::new(tables), rest, said),
+        Ok(()) => {
+            said.push(Answer::Accepted)?;
+            serve_all(&Task::new(tables), rest, said)
+        }
     }
 }
 
 // Adds the answers on an accepted task.
-fn serve_all(
-    heap: Global,
-    task: &Task,
-    rest: &[Directive],
-    said: &mut Vec<Answer>,
-) -> Result<(), AllocError>
-    ensures { OnOk result (map seen said.new.items ≡ map seen said.old.items ++ map (served (problem task.now)) rest.now) }
+fn serve_all(task: &Task, rest: &[Directive], said: &mut Vec<Answer>) -> Result<(), AllocError>
+    ensures { OnOk result (said.new.items ≡ said.old.items ++ map (served (problem task.now)) rest.now) }
 {
     for directive in rest {
-        said.push(serve(heap, task, directive)?)?;
+        said.push(serve(task, directive))?;
     }
     Ok(())
 }
 
 // The answer to a directive on an accepted task.
-fn serve(heap: Global, task: &Task, directive: &Directive) -> Result<Answer, AllocError>
-    ensures { IfOk result (λ a. seen a ≡ served (problem task.now) directive.now) }
+fn serve(task: &Task, directive: &Directive) -> Answer
+    ensures { result ≡ served (problem task.now) directive.now }
 {
     match directive {
-        Directive::Accept => Ok(Answer::Accepted),
-        Directive::Check(list) => Ok(plans::check(task, list.as_slice())),
-        Directive::Est(asked, state) => Ok(told_estimate(estimate_of(*asked, task, state))),
-        Directive::Grounds(room, state) => grounds::records(heap, task, *room, state),
-        Directive::Later => Ok(Answer::NotServed),
-        Directive::Malformed(line) => Ok(Answer::BadLine(*line)),
+        Directive::Accept => Answer::Accepted,
+        Directive::Check(list) => plans::check(task, list.as_slice()),
+        Directive::Est(asked, state) => told_estimate(estimate_of(*asked, task, state)),
+        Directive::Later => Answer::NotServed,
+        Directive::Malformed(line) => Answer::BadLine(*line),
     }
 }

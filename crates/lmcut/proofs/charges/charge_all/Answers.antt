@@ -1,13 +1,11 @@
-use Rattle.std.proofs.Common.{◌-◌, true, false, get_or, sym, ap, subst, arith}
-use Rattle.lmcut.specs.Drawn.{zone_of, Light}
+use Rattle.std.proofs.Common.{◌-◌, get_or, sym, ap, subst, arith}
+use Rattle.lmcut.specs.Drawn.{Light}
 use Rattle.lmcut.proofs.Paying.{light_cut, paying_start, paying_step, paying_end, paying_modest}
 use Rattle.lmcut.proofs.charges.charge_all.Goals as goal
 
 pub charge_of-requires : goal.charge_of-requires
 charge_of-requires c =
     let q = c.args.question.now in
-    let near = zone_of q true c.args.near in
-    let start = zone_of q false c.args.start in
     let i = c.loop-action.action in
     let same = c.loop-action.invariant.rest i (omega arith) in
     record {
@@ -15,7 +13,7 @@ charge_of-requires c =
       placed = c.requires.placed;
       inside = omega arith;
       modest = (let m = c.requires.modest i in omega arith);
-      light = λ s. subst (λ r. Light q r near c.args.weight i) (sym same) (subst (λ μ. Light q (get_or c.args.left.now i 0) near μ i) (sym c.requires.weighs) (light_cut q c.args.left.now c.args.sources.now near start i (omega arith) s));
+      light = λ s. subst (λ r. Light q r c.args.near.now c.args.weight i) (sym same) (subst (λ μ. Light q (get_or c.args.left.now i 0) c.args.near.now μ i) (sym c.requires.weighs) (light_cut q c.args.left.now c.args.sources.now c.args.near.now c.args.start.now i (omega arith) s));
     }
 
 pub returns : goal.returns

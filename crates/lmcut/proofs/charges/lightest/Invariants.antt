@@ -1,8 +1,5 @@
-use Rattle.std.proofs.Common.{◌≤◌}
-use Rattle.lmcut.specs.Drawn.{read_value}
-use Rattle.lmcut.specs.Valued.{infinite}
-use Rattle.lmcut.proofs.Crossed.{goal-side, into_all, Entering, Lightening}
+use Rattle.lmcut.proofs.Crossed.{Lightening}
 use Rattle.lmcut.proofs.charges.lightest.Given as goal
 
 abbrev pub invariant-loop-node : goal.invariant-loop-node
-invariant-loop-node l = Entering l.question l.near l.action (Lightening l.left (into_all l.question (goal-side l.question l.near l.action) l.action) (read_value l.best)) l.node-iterator.word × (l.best ≤ infinite)
+invariant-loop-node l = Lightening l.question l.left l.near l.action l.node l.best

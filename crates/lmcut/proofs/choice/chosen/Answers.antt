@@ -1,33 +1,18 @@
-use Rattle.std.proofs.Common.{◌≤◌, length, get_or, sym, ap, ◌∙◌, subst, arith}
-use Rattle.lmcut.proofs.Picks.{Taking, taking_start, taking_inside, taking_below, taking_step, taking_end}
+use Rattle.std.proofs.Common.{◌≡◌, ◌+◌, ◌≤◌, length, get_or, sym, ◌∙◌, subst, arith, rules}
+use Rattle.lmcut.proofs.Picks.{Picking, picking_not, picking_so, picking_end, bit_set, bit_clear}
 use Rattle.lmcut.proofs.choice.chosen.Goals as goal
-
-pub loop-node-init : goal.loop-node-init
-loop-node-init c = taking_start _ _ _ _ (ap (λ b. b.word) c.into_iter-node-iterator.ensures.into_iter_gives ∙ c.new-node-items.ensures)
-
-pub preferred-best-requires : goal.preferred-best-requires
-preferred-best-requires c =
-    let q = c.args.question.now in
-    let f = c.requires.0.few_nodes in
-    let t = c.told-values in
-    let s = c.in-Some.ensures.steps in
-    let long : q.nodes ≤ length c.args.values.now = omega arith in
-    let i = taking_inside _ _ _ _ _ long (c.requires.0.needs_inside c.args.action) c.loop-node.invariant _ _ s in
-    (omega arith, taking_below _ _ _ _ _ long (c.requires.0.needs_inside c.args.action) c.loop-node.invariant _ _ s)
+use Rattle.lmcut.proofs.choice.chosen.Goals.{then-needs-node-eq1, else-needs-node-eq1}
 
 pub loop-node-preserved : goal.loop-node-preserved
 loop-node-preserved c =
-    let q = c.args.question.now in
-    let f = c.requires.0.few_nodes in
-    let t = c.told-values in
-    let long : q.nodes ≤ length c.args.values.now = omega arith in
-    subst (λ o. Taking q.nodes c.args.values.now (get_or q.needs c.args.action 0) o c.next.new.self.word) (sym c.preferred-best.ensures)
-    (taking_step _ _ _ _ _ long (c.requires.0.needs_inside c.args.action) c.loop-node.invariant _ _ c.in-Some.ensures.steps)
+    let w = get_or c.args.question.now.needs c.args.action 0 in
+    let long : c.args.question.now.nodes ≤ length c.args.values.now = (let f = c.requires.0.few_nodes in let len : length c.args.values.now ≡ 129 = search rules in omega arith) in
+    elim c.if-needs-node-eq1.branch [
+      | then-needs-node-eq1 v ↦ subst (Picking c.args.question.now.nodes c.args.values.now w (c.loop-node.node + 1)) (sym (v.best-is ∙ v.preferred-best.ensures))
+          (picking_so _ _ w c.loop-node.node _ long (omega arith) c.loop-node.invariant (bit_set w c.loop-node.node v.if-needs-node-eq1.true))
+      | else-needs-node-eq1 v ↦ subst (Picking c.args.question.now.nodes c.args.values.now w (c.loop-node.node + 1)) (sym v.best-is)
+          (picking_not _ _ w c.loop-node.node _ long (omega arith) c.loop-node.invariant (bit_clear w c.loop-node.node v.if-needs-node-eq1.false))
+    ]
 
 pub returns : goal.returns
-returns c =
-    let q = c.args.question.now in
-    let f = c.requires.0.few_nodes in
-    let t = c.told-values in
-    let long : q.nodes ≤ length c.args.values.now = omega arith in
-    taking_end _ _ _ _ _ long (c.requires.0.needs_inside c.args.action) c.loop-node.invariant _ c.in-None.ensures.steps
+returns c = picking_end _ _ _ _ c.loop-node.node (omega arith) c.loop-node.invariant

@@ -1,6 +1,5 @@
-use Rattle.std.proofs.Common.{get_or}
-use Rattle.lmcut.proofs.Picks.{Taking}
+use Rattle.lmcut.proofs.Picks.{Picking}
 use Rattle.lmcut.proofs.choice.chosen.Given as goal
 
 abbrev pub invariant-loop-node : goal.invariant-loop-node
-invariant-loop-node l = Taking l.question.nodes l.values (get_or l.question.needs l.action 0) l.best l.node-iterator.word
+invariant-loop-node l = Picking l.question.nodes l.values l.needs l.node l.best

@@ -1,6 +1,5 @@
-use Rattle.std.proofs.Common.{true, false, ap, ◌∙◌}
+use Rattle.std.proofs.Common.{ap, ◌∙◌}
 use Rattle.landmarks.specs.Rounds.{cut_weight, left_after}
-use Rattle.lmcut.specs.Drawn.{zone_of}
 use Rattle.lmcut.proofs.Bridges.{cut_is, loaded_front}
 use Rattle.lmcut.proofs.landmark.pay.Goals as goal
 
@@ -8,9 +7,7 @@ pub returns : goal.returns
 returns c =
     let q = c.args.question.now in
     let rs = c.args.left.now in
-    let near = zone_of q true c.goal_zone-near.result in
-    let start = zone_of q false c.start_zone-start.result in
-    let same = cut_is q c.args.values.now rs c.sources-sources.result near start c.sources-sources.ensures.chosen c.goal_zone-near.ensures (c.start_zone-start.ensures rs) in
+    let same = cut_is q c.args.values.now rs c.sources-sources.result c.goal_zone-near.result c.start_zone-start.result c.sources-sources.ensures.chosen c.goal_zone-near.ensures (c.start_zone-start.ensures rs) in
     let charged = c.charge_all.ensures.left ∙ ap (left_after c.cut_weight-weight.result) same in
     record {
       weighs = c.cut_weight-weight.ensures ∙ ap cut_weight same;

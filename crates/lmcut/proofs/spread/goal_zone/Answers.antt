@@ -1,57 +1,16 @@
-use Rattle.std.proofs.Common.{◌*◌, ◌%◌, ◌^◌, ◌<◌, sym, subst, arith}
-use lib.Bits.{bit_and, bit_or, bit_xor}
-use lib.Count.{count_trailing_zeros}
-use Rattle.std.proofs.lemmas.Nat.{one_shl}
-use Rattle.lmcut.proofs.Leading.{Taking, lowest, taking_start, taking_small, taking_room, taking_inside, taking_grows, taking_more, taking_end}
+use Rattle.lmcut.proofs.Closing.{spreads_same, spreads_on, goal_zone_is}
 use Rattle.lmcut.proofs.spread.goal_zone.Goals as goal
 
-pub loop-fresh-init : goal.loop-fresh-init
-loop-fresh-init c = taking_start c.args.question.now c.args.left.now c.args.sources.now c.requires.fits c.requires.placed c.last_lead-fresh.result c.last_lead-fresh.ensures
+pub loop-init : goal.loop-init
+loop-init c = spreads_same _ _ _
 
-pub overflow_shl-zone : goal.overflow_shl-zone
-overflow_shl-zone c =
-    let w = c.loop-fresh.fresh in
-    let p : 0 < w = omega arith in
-    let f = taking_small c.args.question.now c.args.left.now c.args.sources.now c.requires.fits c.requires.placed c.loop-fresh.zone c.loop-fresh.fresh c.loop-fresh.invariant in
-    (lowest w p f).inside
+pub loop-preserved : goal.loop-preserved
+loop-preserved c = spreads_on _ _ _ _ _ c.loop.invariant c.goal_pass.ensures.spreads
 
-pub leads-requires : goal.leads-requires
-leads-requires c =
-    let w = c.loop-fresh.fresh in
-    let p : 0 < w = omega arith in
-    let f = taking_small c.args.question.now c.args.left.now c.args.sources.now c.requires.fits c.requires.placed c.loop-fresh.zone c.loop-fresh.fresh c.loop-fresh.invariant in
-    record {
-      fits = c.requires.fits;
-      placed = c.requires.placed;
-      modest = c.requires.modest;
-      inside = taking_inside c.args.question.now c.args.left.now c.args.sources.now c.requires.fits c.requires.placed c.loop-fresh.zone w c.loop-fresh.invariant (count_trailing_zeros 128 w) (lowest w p f).set;
-    }
-
-pub loop-fresh-smaller : goal.loop-fresh-smaller
-loop-fresh-smaller c =
-    let w = c.loop-fresh.fresh in
-    let z = c.loop-fresh.zone in
-    let n = count_trailing_zeros 128 w in
-    let p : 0 < w = omega arith in
-    let f = taking_small c.args.question.now c.args.left.now c.args.sources.now c.requires.fits c.requires.placed c.loop-fresh.zone c.loop-fresh.fresh c.loop-fresh.invariant in
-    let k = taking_room c.args.question.now c.args.left.now c.args.sources.now c.requires.fits c.requires.placed c.loop-fresh.zone c.loop-fresh.fresh c.loop-fresh.invariant in
-    let l = lowest w p f in
-    let more : z < bit_or z (1 * 2 ^ n % 2 ^ 128) = subst (λ y. z < bit_or z y) (sym (one_shl n 128 l.inside)) (taking_grows c.args.question.now c.args.left.now c.args.sources.now c.requires.fits c.requires.placed z w c.loop-fresh.invariant n l.set) in
-    omega arith
-
-pub loop-fresh-preserved : goal.loop-fresh-preserved
-loop-fresh-preserved c =
-    let q = c.args.question.now in
-    let rs = c.args.left.now in
-    let ss = c.args.sources.now in
-    let w = c.loop-fresh.fresh in
-    let z = c.loop-fresh.zone in
-    let n = count_trailing_zeros 128 w in
-    let p : 0 < w = omega arith in
-    let f = taking_small c.args.question.now c.args.left.now c.args.sources.now c.requires.fits c.requires.placed c.loop-fresh.zone c.loop-fresh.fresh c.loop-fresh.invariant in
-    let l = lowest w p f in
-    let r = c.leads.result in
-    subst (λ y. Taking q rs ss (bit_or z y) (bit_xor (bit_or w r) (bit_and (bit_or w r) (bit_or z y)))) (sym (one_shl n 128 l.inside)) (taking_more q rs ss c.requires.fits c.requires.placed z w c.loop-fresh.invariant n l.set r c.leads.ensures)
+pub loop-smaller : goal.loop-smaller
+loop-smaller c = c.goal_pass.ensures.grows c.loop-test.true
 
 pub returns : goal.returns
-returns c = taking_end c.args.question.now c.args.left.now c.args.sources.now c.requires.fits c.requires.placed c.loop-fresh.zone c.loop-fresh.fresh c.loop-fresh.invariant (omega arith)
+returns c =
+    let last = c.goal_pass.ensures.still c.loop-test.false in
+    goal_zone_is c.args.question.now c.args.left.now c.args.sources.now c.goal_pass.new.zone c.requires.fits.some_nodes c.requires.fits.few_nodes c.requires.placed (spreads_on _ _ _ _ _ c.loop.invariant c.goal_pass.ensures.spreads) last.1

@@ -1,5 +1,5 @@
-use Rattle.lmcut.proofs.Starting.{Marking}
+use Rattle.lmcut.proofs.Starting.{Holding}
 use Rattle.lmcut.proofs.spread.held.Given as goal
 
 abbrev pub invariant-loop-node : goal.invariant-loop-node
-invariant-loop-node l = Marking l.question.holds l.node l.zone
+invariant-loop-node l = Holding l.question l.node l.zone

@@ -1,8 +1,6 @@
-use Rattle.std.proofs.Common.{true, false}
-use Rattle.lmcut.specs.Drawn.{zone_of}
 use Rattle.lmcut.specs.Spreading.{Stepped, joins}
 use Rattle.lmcut.proofs.Starting.{JoinedAll}
 use Rattle.lmcut.proofs.spread.start_pass.Given as goal
 
 abbrev pub invariant-loop-action : goal.invariant-loop-action
-invariant-loop-action l = Stepped l.question false (joins l.question l.sources (zone_of l.question true l.near)) (JoinedAll l.question l.sources (zone_of l.question true l.near) l.action) l.from l.zone
+invariant-loop-action l = Stepped (joins l.question l.sources l.near) l.question.nodes (JoinedAll l.question l.sources l.near l.action) l.initial.zone l.zone l.grew

@@ -1,18 +1,17 @@
-use Rattle.std.proofs.Common.{true, false, subst}
-use Rattle.lmcut.specs.Drawn.{zone_of}
-use Rattle.lmcut.specs.Spreading.{Closed, joins}
-use Rattle.lmcut.proofs.Closing.{spreads_on}
+use Rattle.lmcut.proofs.Closing.{spreads_same, spreads_on}
 use Rattle.lmcut.proofs.Starting.{start_zone_is}
 use Rattle.lmcut.proofs.spread.start_zone.Goals as goal
 
-pub loop-zone-preserved : goal.loop-zone-preserved
-loop-zone-preserved c = spreads_on _ _ _ _ _ c.loop-zone.invariant c.start_pass-next.ensures.spreads
+pub loop-init : goal.loop-init
+loop-init c = spreads_same _ _ _
 
-pub returns-then-next-zone : goal.returns-then-next-zone
-returns-then-next-zone c =
-    let q = c.args.question.now in
-    let ss = c.args.sources.now in
-    let near = zone_of q true c.args.near in
-    let same = c.if-next-zone.true in
-    start_zone_is q ss near c.held-zone.result c.loop-zone.zone c.requires.fits c.held-zone.ensures c.loop-zone.invariant
-    (subst (λ w. Closed (joins q ss near) q.nodes (zone_of q false w)) same (c.start_pass-next.ensures.still same))
+pub loop-preserved : goal.loop-preserved
+loop-preserved c = spreads_on _ _ _ _ _ c.loop.invariant c.start_pass.ensures.spreads
+
+pub loop-smaller : goal.loop-smaller
+loop-smaller c = c.start_pass.ensures.grows c.loop-test.true
+
+pub returns : goal.returns
+returns c =
+    let last = c.start_pass.ensures.still c.loop-test.false in
+    start_zone_is c.args.question.now c.args.sources.now c.args.near.now c.held-zone.result c.start_pass.new.zone c.requires.fits c.held-zone.ensures (spreads_on _ _ _ _ _ c.loop.invariant c.start_pass.ensures.spreads) last.1

@@ -1,10 +1,8 @@
-use Rattle.std.proofs.Common.{◌-◌, ◌^◌, true, false}
-use Rattle.lmcut.specs.Drawn.{zone_of}
-use Rattle.lmcut.specs.Spreading.{Spreads, joins}
+use Rattle.lmcut.specs.Spreading.{Spreads, outside, joins}
 use Rattle.lmcut.proofs.spread.start_zone.Given as goal
 
-abbrev pub invariant-loop-zone : goal.invariant-loop-zone
-invariant-loop-zone l = Spreads (joins l.question l.sources (zone_of l.question true l.near)) l.question.nodes (zone_of l.question false l.initial.zone) (zone_of l.question false l.zone)
+abbrev pub invariant-loop : goal.invariant-loop
+invariant-loop l = Spreads (joins l.question l.sources l.near) l.question.nodes l.initial.zone l.zone
 
-abbrev pub decreases-loop-zone : goal.decreases-loop-zone
-decreases-loop-zone l = 2 ^ 128 - l.zone
+abbrev pub decreases-loop : goal.decreases-loop
+decreases-loop l = outside l.zone

@@ -1,20 +1,27 @@
-use Rattle.std.proofs.Common.{◌≡◌, ◌+◌, ◌*◌, subst, arith}
-use Rattle.lmcut.specs.Valued.{fires_at, ReachedTo}
-use Rattle.lmcut.proofs.Offers.{reached_none, reached_all}
+use Rattle.std.proofs.Common.{◌+◌, sym, subst, subst₂}
+use Rattle.lmcut.specs.Queued.{Queued}
+use Rattle.lmcut.specs.Valued.{ReachedTo, fires_at}
+use Rattle.lmcut.proofs.Offers.{reached_skip, reached_fire}
 use Rattle.lmcut.proofs.values.settle.Goals as goal
+use Rattle.lmcut.proofs.values.settle.Goals.{then-fires, else-fires}
 
-pub loop-part-init : goal.loop-part-init
-loop-part-init c = (reached_none c.args.question.now c.args.left.now (fires_at c.args.question.now c.args.open c.args.last.number) c.args.last.value c.args.values.now, c.requires.1.1.1.1)
-
-pub loop-part-preserved : goal.loop-part-preserved
-loop-part-preserved c =
+pub loop-action-preserved : goal.loop-action-preserved
+loop-action-preserved c =
     let q = c.args.question.now in
-    let due = fires_at q c.args.open c.args.last.number in
-    let next : 128 * c.loop-part.part + 128 ≡ 128 * (c.loop-part.part + 1) = omega arith in
-    let s = c.settle_part.ensures.reached c.args.values.now c.loop-part.invariant.0 in
-    (subst (λ k. ReachedTo q c.args.left.now due c.args.last.value k c.args.values.now c.settle_part.new.values) next s, c.settle_part.ensures.queued)
-
-pub returns : goal.returns
-returns c =
-    let s = reached_all c.args.question.now c.args.left.now c.args.open c.args.last.number c.args.last.value c.requires.0 (128 * c.loop-part.part) c.args.values.now c.loop-part.values (omega (arith, c.loop-part-test.false)) c.loop-part.invariant.0 in
-    record { reached = s; queued = c.loop-part.invariant.1 }
+    let rs = c.args.left.now in
+    let due = fires_at q c.args.open c.args.first c.args.last.number in
+    let top = c.args.last.value in
+    let k = c.loop-action.action in
+    let xs = c.args.values.now in
+    let ys = c.loop-action.values in
+    let s = c.loop-action.invariant.0 in
+    elim c.if-fires.branch [
+      | then-fires w ↦ (
+        subst (ReachedTo q rs due top (k + 1) xs) (sym w.values-is) (reached_fire q rs due top k xs ys s w.fire.new.values c.fires.result c.fires.ensures w.if-fires.true w.fire.ensures.fired),
+        subst₂ (λ zs h. Queued zs c.args.open q.nodes h) (sym w.values-is) (sym w.heap-is) w.fire.ensures.queued,
+      )
+      | else-fires w ↦ (
+        subst (ReachedTo q rs due top (k + 1) xs) (sym w.values-is) (reached_skip q rs due top k xs ys s c.fires.result c.fires.ensures w.if-fires.false),
+        subst₂ (λ zs h. Queued zs c.args.open q.nodes h) (sym w.values-is) (sym w.heap-is) c.loop-action.invariant.1,
+      )
+    ]

@@ -1,7 +1,6 @@
-use Rattle.std.proofs.Common.{◌≡◌, ◌-◌, ◌^◌, ◌<◌, ◌≤◌, length, get_or, Some, None, sym, ap, ◌∙◌, arith, rules}
+use Rattle.std.proofs.Common.{◌≡◌, ◌<◌, ◌≤◌, length, None, sym, ap, ◌∙◌, arith, rules}
 use Rattle.tables.specs.Check.{told, link_fault, among}
 use Rattle.tables.specs.Problem.{contents}
-use Rattle.tables.specs.declared.Link.{Link}
 use Rattle.tables.specs.Problem.{no_link}
 use Rattle.tables.proofs.Checked.{walked_start, walked_end, walked_missing, walked_fault, walked_same, walked_marked, walked_on, walked_less, told_err, told_ok}
 use Rattle.tables.proofs.Tables.check_chain.Goals as goal

@@ -1,4 +1,4 @@
-use Rattle.std.proofs.Common.{◌≡◌, ◌+◌, sym, ap, ◌∙◌}
+use Rattle.std.proofs.Common.{◌+◌, sym, ap}
 use Rattle.tables.specs.Check.{told, unless}
 use Rattle.tables.specs.declared.fault.TaskFault.TheVariants.{Quantity}
 use Rattle.tables.proofs.Records.{left_fault, left_more, left_end}

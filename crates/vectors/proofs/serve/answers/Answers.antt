@@ -1,23 +1,22 @@
-use Rattle.std.proofs.Common.{◌-◌, map, length, drop, vec_items, ap, ◌∙◌, arith}
+use Rattle.std.proofs.Common.{◌+◌, ◌-◌, length, drop, vec_items, ap, ◌∙◌, arith}
 use Rattle.std.proofs.lemmas.List.{length-drop, take_all}
 use Rattle.tables.specs.Problem.{contents}
 use Rattle.vectors.specs.Answers.{block_answers}
-use Rattle.vectors.specs.Said.{seen}
-use Rattle.script.specs.Filled.{filled, asks}
-use Rattle.vectors.proofs.Steps.{seen_push, waits_more, waits_all, accept_all}
+use Rattle.vectors.specs.Filled.{filled}
+use Rattle.vectors.proofs.Steps.{waits_more, waits_all, accept_all}
 use Rattle.vectors.proofs.serve.answers.Goals as goal
 
 pub returns-in-Accept : goal.returns-in-Accept
 returns-in-Accept c =
-    accept_all (filled c.args.block.now) (contents c.tables.result) c.asked-asked.result.now (asks c.args.block.now) _ c.loop-i.i c.index-asked-i.result (map seen (vec_items c.loop-i.said))
-    (map seen (vec_items c.accept.new.said)) c.loop-i-test.true c.index-asked-i.is c.in-Accept.is c.asked-asked.ensures c.tables.ensures
-    (take_all (length c.asked-asked.result.now - c.loop-i.i) (drop c.loop-i.i c.asked-asked.result.now) (omega (arith, length-drop c.loop-i.i c.asked-asked.result.now)))
+    accept_all (filled c.args.block.now) (contents c.tables.result) c.asked-asked.result.now (vec_items c.args.block.now.asked) _ c.loop-i.i c.index-asked-i.result (vec_items c.loop-i.said)
+    (vec_items c.accept.new.said) c.loop-i-test.true c.index-asked-i.is c.in-Accept.is c.asked-asked.ensures c.tables.ensures
+    (take_all (length c.asked-asked.result.now - (c.loop-i.i + 1)) (drop (c.loop-i.i + 1) c.asked-asked.result.now) (omega (arith, length-drop (c.loop-i.i + 1) c.asked-asked.result.now)))
     c.loop-i.invariant c.in_ok-accept.ensures
 
 pub loop-i-preserved : goal.loop-i-preserved
 loop-i-preserved c =
-    waits_more (filled c.args.block.now) c.asked-asked.result.now c.loop-i.i c.index-asked-i.result _ _ (seen c.before_accept.result) c.loop-i-test.true c.index-asked-i.is c.in_default.not-Accept
-    c.before_accept.ensures c.loop-i.invariant (seen_push _ _ _ c.in_ok-push.ensures.items)
+    waits_more (filled c.args.block.now) c.asked-asked.result.now c.loop-i.i c.index-asked-i.result _ _ c.before_accept.result c.loop-i-test.true c.index-asked-i.is c.in_default.not-Accept
+    c.before_accept.ensures c.loop-i.invariant c.in_ok-push.ensures.items
 
 pub returns : goal.returns
 returns c =

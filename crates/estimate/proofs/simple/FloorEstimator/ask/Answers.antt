@@ -1,9 +1,7 @@
-use Rattle.std.proofs.Common.{◌≡◌, cond, eqb, length, sym, ap, ◌∙◌}
+use Rattle.std.proofs.Common.{eqb, length, sym, ap, ◌∙◌}
 use Rattle.std.proofs.lemmas.Bool.{cond-true, cond-false}
-use Rattle.task.specs.States.{is_state, goal_holds}
-use Rattle.task.specs.Tasks.{problem}
 use Rattle.estimate.specs.Answers.{floor_answer, cheapest}
-use Rattle.estimate.specs.declared.estimate.Estimate.TheVariants.{AtLeast, Dead}
+use Rattle.estimate.specs.declared.estimate.Estimate.TheVariants.{AtLeast}
 use Rattle.estimate.proofs.simple.FloorEstimator.ask.Goals as goal
 use Rattle.estimate.proofs.simple.FloorEstimator.ask.Goals.{then-not-is_state-via-then-not-is_state, then-not-is_state-via-else-not-is_state+then-goal_holds}
 

@@ -1,4 +1,4 @@
-use Rattle.std.proofs.Common.{◌≡◌, is_some, sym, refl, ap, ◌∙◌}
+use Rattle.std.proofs.Common.{is_some, sym, ap, ◌∙◌}
 use Rattle.task.proofs.Results.{allowed_result}
 use Rattle.task.proofs.accepted.Task.allowed.Goals as goal
 

@@ -1,4 +1,4 @@
-use Rattle.std.proofs.Common.{◌≡◌, ◌<◌, ◌≤◌, true, ◌+ℤ◌, sym, refl, ap, ◌∙◌, subst, ap₂, ⊎_elim, arith, w32, SFits, rules}
+use Rattle.std.proofs.Common.{◌≡◌, true, ◌+ℤ◌, sym, ◌∙◌, subst, ap₂, ⊎_elim, arith, w32, SFits, rules}
 use Rattle.std.proofs.lemmas.Int.{to_z-of_z}
 use Rattle.std.proofs.lemmas.Bool.{cases_Bool, cond-false}
 use Rattle.tables.specs.Check.{in_range}

@@ -1,8 +1,7 @@
-use Rattle.std.proofs.Common.{◌≡◌, sym, ap, ◌∙◌, ap₂, w64, SFits, rules}
+use Rattle.std.proofs.Common.{◌∙◌, ap₂, w64, SFits, rules}
 use lib.Signed.{le_z}
 use Rattle.std.proofs.lemmas.Int.{to_z-of_z}
 use Rattle.task.specs.States.{condition_holds}
-use Rattle.task.specs.Tasks.{problem}
 use Rattle.task.proofs.Along.{kept_rules, condition_keeps}
 use Rattle.task.proofs.accepted.Task.condition_holds.Goals as goal
 

@@ -1,4 +1,4 @@
-use Rattle.std.proofs.Common.{◌≡◌, ◌-◌, ◌^◌, ◌<◌, ◌≤◌, length, set, sym, refl, ap, ◌∙◌, subst, ap₂, inl, inr, arith, w32, SFits, rules}
+use Rattle.std.proofs.Common.{◌-◌, set, sym, ap, ◌∙◌, subst, ap₂, inl, inr, arith, w32, SFits, rules}
 use lib.Bits.{bit_or}
 use Rattle.std.proofs.lemmas.Nat.{one_shl}
 use Rattle.std.proofs.lemmas.Int.{to_z-of_z}
@@ -6,7 +6,7 @@ use Rattle.tables.specs.Chains.{chain}
 use Rattle.task.specs.States.{stays, made, cleared, values_after}
 use Rattle.task.specs.Tasks.{problem}
 use Rattle.tables.specs.declared.Role.TheVariants.{Effects}
-use Rattle.task.proofs.Along.{Gone, going_start, going_step, going_end, kept_rules}
+use Rattle.task.proofs.Along.{going_start, going_step, going_end, kept_rules}
 use Rattle.tables.proofs.Checked.{under_some, under_none}
 use Rattle.task.proofs.Effects.{Effected, effect_fact, effect_quantity, effected_sets, effected_clears, effected_change, effected_out, effected_end}
 use Rattle.task.proofs.accepted.Task.effected.Goals as goal

@@ -1,11 +1,10 @@
-use Rattle.std.proofs.Common.{◌≡◌, ℕ, ◌+◌, ◌^◌, ◌<◌, ◌≤◌, ℤ, pos, ◌+ℤ◌, ◌-ℤ◌, nat_abs, sym, ap, ◌∙◌, subst, ap₂, inl, inr, arith, w32, w64, SFits, to_z, of_z, rules}
-use Rattle.std.proofs.lemmas.Int.{to_z-of_z, ints}
+use Rattle.std.proofs.Common.{◌≡◌, ◌-ℤ◌, sym, ap, ◌∙◌, subst, ap₂, inl, inr, arith, w64, SFits, to_z, of_z, rules}
+use Rattle.std.proofs.lemmas.Int.{to_z-of_z}
 use Rattle.std.proofs.lemmas.Bool.{and_from, le-leb, cond-true}
-use Rattle.task.specs.States.{gap, condition_at}
-use Rattle.task.specs.Tasks.{problem}
+use Rattle.task.specs.States.{gap}
 use Rattle.task.proofs.Along.{kept_rules, condition_keeps}
 use Rattle.task.proofs.Results.{gap_none}
-use Rattle.task.proofs.Ints.{size_fits64, nat_abs_add, nat_abs_less}
+use Rattle.task.proofs.Ints.{size_fits64, nat_abs_less}
 use Rattle.task.proofs.accepted.Task.gap.Goals as goal
 use Rattle.task.proofs.accepted.Task.gap.Goals.{then-number-eq0-via-then-number-eq0, then-number-eq0-via-else-number-eq0+then-number-self}
 

@@ -1,4 +1,4 @@
-use Rattle.std.proofs.Common.{◌≡◌, ◌&&◌, sym, refl, ap, ◌∙◌, ap₂}
+use Rattle.std.proofs.Common.{◌&&◌, sym, ap, ◌∙◌, ap₂}
 use Rattle.tables.specs.Chains.{chain}
 use Rattle.task.specs.States.{all_hold}
 use Rattle.task.specs.Tasks.{problem}

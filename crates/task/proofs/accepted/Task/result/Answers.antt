@@ -1,4 +1,4 @@
-use Rattle.std.proofs.Common.{◌≡◌, ℕ, ◌≤◌, true, Option, sym, ◌∙◌, inl, inr, arith}
+use Rattle.std.proofs.Common.{◌≡◌, ℕ, true, Option, sym, ◌∙◌, inl, inr, arith}
 use Rattle.task.specs.Meaning.{MovesMean}
 use Rattle.task.specs.States.{is_state, result_of}
 use Rattle.task.specs.Tasks.{problem}

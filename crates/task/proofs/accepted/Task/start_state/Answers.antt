@@ -1,4 +1,4 @@
-use Rattle.std.proofs.Common.{◌≡◌, ◌<◌, ◌≤◌, length, get_or, set, sym, ap, ◌∙◌, ap₂, arith, w32, SFits, rules}
+use Rattle.std.proofs.Common.{◌≡◌, length, get_or, set, ap, ◌∙◌, ap₂, arith, w32, SFits, rules}
 use Rattle.std.proofs.lemmas.Int.{to_z-of_z}
 use Rattle.task.specs.States.{start_state, is_state, no_quantity}
 use Rattle.task.specs.Tasks.{problem}

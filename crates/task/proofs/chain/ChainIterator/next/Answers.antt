@@ -1,6 +1,6 @@
-use Rattle.std.proofs.Common.{◌-◌, ◌<◌, ◌≤◌, length, get_or, refl, arith, rules}
+use Rattle.std.proofs.Common.{◌<◌, refl, arith, rules}
 use Rattle.tables.specs.Problem.{no_link}
-use Rattle.task.specs.Walk.{Walkable, Stepped}
+use Rattle.task.specs.Walk.{Stepped}
 use Rattle.tables.proofs.Walks.{walk_falls}
 use Rattle.task.proofs.Steps.{chain_none, walk_within, walk_step}
 use Rattle.task.proofs.chain.ChainIterator.next.Goals as goal

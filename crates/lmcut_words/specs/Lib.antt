@@ -1,0 +1,12 @@
+pub mod Questions
+pub mod Drawn
+pub mod Preferred
+pub mod Spreading
+pub mod Valued
+pub mod Queued
+pub mod Totalled
+pub mod Prepared
+pub mod Recorded
+pub mod Bitwise
+pub mod Marked
+pub mod Answering

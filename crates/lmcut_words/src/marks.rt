@@ -1,0 +1,29 @@
+// The actions that need each node, or that reach it, as words over the actions.
+ghost use Rattle.std.specs.Prelude.{◌≡◌, ◌<◌};
+ghost use Rattle.lmcut_words.specs.Marked.{unmarked, Sized, Marks, Needing};
+
+use crate::bits::*;
+
+// Marks an action at each node of a word.
+fn mark(words: &mut [[u128; 3]; 128], word: u128, action: usize)
+    requires inside { action < 384 }
+    requires sized { Sized words.old }
+    ensures sized { Sized words.new }
+    ensures marks { Marks words.old word action words.new }
+{
+    let part = action / 128;
+    let bit = 1u128 << (action % 128);
+    for node in Bits::new(word) {
+        words[node][part] |= bit;
+    }
+}
+
+// Marks at each node the actions whose words have it, where none is marked yet.
+pub(crate) fn mark_all(needs: &[u128; 257], words: &mut [[u128; 3]; 128])
+    requires { words.old ≡ unmarked }
+    ensures { Needing needs.now words.new }
+{
+    for (action, word) in needs.iter().enumerate() {
+        mark(words, *word, action);
+    }
+}
