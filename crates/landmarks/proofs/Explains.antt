@@ -1,6 +1,6 @@
 -- The landmark records come in order, and their weights add up to the total.
 use Rattle.std.proofs.Common.{◌≡◌, ℕ, zero, suc, ◌+◌, ◌^◌, ◌<◌, ◌≤◌, min, Bool, true, false, cond, ◌||◌, eqb, leb, List, [], ◌∷◌, ◌++◌, Some, None, sym, refl, ap, ◌∙◌, subst, inl, inr, ⊎_elim, arith}
-use Rattle.std.specs.List.{AllByRecursion as All}
+use Rattle.std.specs.List.{AllByRecursion}
 use Rattle.std.proofs.ByRecursion.{All-append, All-weaker}
 use Rattle.std.proofs.lemmas.Bool.{cases_Bool, cond-true, cond-false, or_parts, eq-eqb, ne_eqb, eqb-false, true≢false}
 use Rattle.tables.specs.Problem.{Problem}
@@ -24,12 +24,12 @@ use Rattle.landmarks.proofs.Shapes.{shorts, relaxed_fits}
 abbrev Later : ℕ → ℕ → Ground → Type 0
 Later k m g = (g.round ≡ k) × (m ≤ g.number)
 
-noted_later : (k μ m : ℕ) (cs : List Crossing) → All (Later k m) (grounds_of k μ m cs)
+noted_later : (k μ m : ℕ) (cs : List Crossing) → AllByRecursion (Later k m) (grounds_of k μ m cs)
 unfolding grounds_of
 noted_later k μ m [] = tt
 noted_later k μ m (c ∷ cs) = go (crosses c.edges) (All-weaker (Later k (m + 1)) (Later k m) (λ g h. (h.0, (let l = h.1 in omega arith))) (grounds_of k μ (m + 1) cs) (noted_later k μ (m + 1) cs))
   where
-    go : (b : Bool) → All (Later k m) (grounds_of k μ (m + 1) cs) → All (Later k m) (cond b (record { round = k; weight = μ; number = m; charge = charge_of μ c } ∷ grounds_of k μ (m + 1) cs) (grounds_of k μ (m + 1) cs))
+    go : (b : Bool) → AllByRecursion (Later k m) (grounds_of k μ (m + 1) cs) → AllByRecursion (Later k m) (cond b (record { round = k; weight = μ; number = m; charge = charge_of μ c } ∷ grounds_of k μ (m + 1) cs) (grounds_of k μ (m + 1) cs))
     go true h = ((refl, omega arith), h)
     go false h = h
 
@@ -42,14 +42,14 @@ noted_ordered k μ m (c ∷ cs) = go (crosses c.edges) (noted_ordered k μ (m + 
     go true h = (All-weaker (Later k (m + 1)) (Before (record { round = k; weight = μ; number = m; charge = charge_of μ c })) (λ g l. inr (sym l.0, (let n = l.1 in omega arith))) (grounds_of k μ (m + 1) cs) (noted_later k μ (m + 1) cs), h)
     go false h = h
 
-ordered_append : (k : ℕ) (gs hs : List Ground) → Ordered gs → Ordered hs → All (λ g. g.round ≡ k) gs → All (λ h. k + 1 ≤ h.round) hs → Ordered (gs ++ hs)
+ordered_append : (k : ℕ) (gs hs : List Ground) → Ordered gs → Ordered hs → AllByRecursion (λ g. g.round ≡ k) gs → AllByRecursion (λ h. k + 1 ≤ h.round) hs → Ordered (gs ++ hs)
 ordered_append k [] hs a b c d = b
 ordered_append k (g ∷ gs) hs a b c d =
     (All-append (Before g) gs hs a.0 (All-weaker (λ h. k + 1 ≤ h.round) (Before g) (λ h l. inl (let e = c.0 in omega arith)) hs d), ordered_append k gs hs a.1 b c.1 d)
 
 pub record InOrder (k : ℕ) (gs : List Ground) : Type 0 where
   pub ordered : Ordered gs
-  pub from : All (λ g. k ≤ g.round) gs
+  pub from : AllByRecursion (λ g. k ≤ g.round) gs
 
 abbrev pub Orderly : ℕ → Outcome → Type 0
 Orderly k Dead = Unit {0}

@@ -2,7 +2,7 @@
 use Rattle.std.proofs.Common.{◌≡◌, ℕ, zero, suc, ◌+◌, ◌-◌, ◌<◌, ◌≤◌, Bool, true, false, cond, not, ◌&&◌, eqb, ◌⊎◌, List, [], ◌∷◌, ◌++◌, map, length, get_or, ℤ, pos, negsuc, ◌+ℤ◌, ◌-ℤ◌, ◌*ℤ◌, neg_ℤ, nat_abs, ◌≤ℤ◌, Some, None, fold, Option, sym, refl, ap, ◌∙◌, subst, ap₂, inl, inr, ⊎_elim, arith}
 use lib.IntN.{+ℤ_assoc, +ℤ_idr, +ℤ-suc_ℤ, +ℤ-pred_ℤ, suc_ℤ-*ℤ, pred_ℤ-*ℤ, zero-*ℤ, *ℤ_comm}
 use lib.Signed.{le_z}
-use Rattle.std.specs.List.{AllByRecursion as All}
+use Rattle.std.specs.List.{AllByRecursion}
 use Rattle.std.proofs.ByRecursion.{All-weaker}
 use Rattle.std.proofs.lemmas.Int.{ints}
 use Rattle.std.proofs.lemmas.List.{get_or-map, length-map, get_or_append_left, get_or-append_right, length-append}
@@ -52,7 +52,7 @@ distribute a (negsuc n) c = distribute_neg a n c
 regroup : (a b x y : ℤ) → (a +ℤ b) +ℤ (x +ℤ y) ≡ (a +ℤ x) +ℤ (b +ℤ y)
 regroup a b x y = omega (arith, ints)
 
-sum_from : (t u : State) (es ls : List Link) (a b : ℤ) → All (λ l. value_of u l.subject ≡ value_of t l.subject +ℤ change es l.subject) ls
+sum_from : (t u : State) (es ls : List Link) (a b : ℤ) → AllByRecursion (λ l. value_of u l.subject ≡ value_of t l.subject +ℤ change es l.subject) ls
     → fold (add_term u) (a +ℤ b) ls ≡ fold (add_term t) a ls +ℤ fold (add_gain es) b ls
 sum_from t u es [] a b h = refl
 sum_from t u es (l ∷ ls) a b h =
@@ -249,7 +249,7 @@ reached_covers p s t done r l f e = go (eqb l.kind 2) refl e
             over : (m a : ℤ) → le_z m a ≡ false → a ≤ℤ m
             over m a u = grind (arith, ints)
 
-covers_all : (p : Problem) (s t : State) (done : List ℕ) → Reached p s done t → (ls : List Link) → All (LinkFits p Needs) ls → all_hold p t ls ≡ true → (n : ℕ) → In n (map (node_of p) ls) → Covered (relaxed p s) (shorts p s) done n
+covers_all : (p : Problem) (s t : State) (done : List ℕ) → Reached p s done t → (ls : List Link) → AllByRecursion (LinkFits p Needs) ls → all_hold p t ls ≡ true → (n : ℕ) → In n (map (node_of p) ls) → Covered (relaxed p s) (shorts p s) done n
 covers_all p s t done r [] f h n i = absurd i
 covers_all p s t done r (l ∷ ls) f h n i =
     let b = and_parts (need_holds p t l) (all_hold p t ls) h in
@@ -284,7 +284,7 @@ module _ (p : Problem) (k : Keeps p) (s : State) where
   pub record Run (done ms : List ℕ) : Type 0 where
     pub run : RunFrom (relaxed p s) (shorts p s) done (places p ms)
     pub wins : CoveredAfter (relaxed p s) (shorts p s) done (places p ms) (p.head.facts + length p.conditions)
-    pub moves : All (λ m. (1 ≤ m) × (m ≤ length p.moves)) ms
+    pub moves : AllByRecursion (λ m. (1 ≤ m) × (m ≤ length p.moves)) ms
 
   run_along : (t e : State) (done ms : List ℕ) → is_state p t ≡ true → Reached p s done t → after p t ms ≡ Some e → goal_holds p e ≡ true → Run done ms
   unfolding after

@@ -1,7 +1,7 @@
 -- The landmark of a round: every run that covers the goal is charged at least the weight of the cut.
 use Rattle.std.proofs.Common.{◌≡◌, ℕ, ◌+◌, ◌*◌, ◌<◌, ◌≤◌, Bool, true, false, ◌&&◌, ◌||◌, leb, ◌⊎◌, List, [], ◌∷◌, length, get_or, Some, None, Option, sym, refl, ap, ◌∙◌, subst, inl, inr, ⊎_elim, mul_comm, mul-le-mul_left, mul-zero, mul-add, arith}
 use native.Mathlib.Nat.{le_of_mul-le-mul_left}
-use Rattle.std.specs.List.{AllByRecursion as All}
+use Rattle.std.specs.List.{AllByRecursion}
 use Rattle.std.proofs.lemmas.List.{get_or-map, length-map}
 use Rattle.std.proofs.lemmas.Bool.{cases_Bool, and_parts, and_from, or_cases, or_left, or_right, leb-true, le-leb, true≢false}
 use Rattle.landmarks.specs.Relaxed.{Relaxed, goal}
@@ -65,7 +65,7 @@ module _ (rx : Relaxed) (shorts : ℕ → ℕ) (fit : WellFormed rx shorts) (rs 
       omega arith)
       (gain_cases (action_at rx i).reaches p)
 
-  paid : (p : ℕ) (is : List ℕ) → All Started is → in_zone (near_goal rx rs) p ≡ true → weight_now rx rs * credit rx is p ≤ shorts p * charged rx rs is
+  paid : (p : ℕ) (is : List ℕ) → AllByRecursion Started is → in_zone (near_goal rx rs) p ≡ true → weight_now rx rs * credit rx is p ≤ shorts p * charged rx rs is
   paid p [] s n = let a = mul-zero (weight_now rx rs) in omega arith
   paid p (i ∷ is) s n =
       let a = pays p i s.0 n in
@@ -75,7 +75,7 @@ module _ (rx : Relaxed) (shorts : ℕ → ℕ) (fit : WellFormed rx shorts) (rs 
       omega arith
 
   -- a node of the goal zone that actions from the start zone cover has them charged in full
-  paid_off : (p : ℕ) (is : List ℕ) → All Started is → in_zone (near_goal rx rs) p ≡ true → Covered rx shorts is p → weight_now rx rs ≤ charged rx rs is
+  paid_off : (p : ℕ) (is : List ℕ) → AllByRecursion Started is → in_zone (near_goal rx rs) p ≡ true → Covered rx shorts is p → weight_now rx rs ≤ charged rx rs is
   paid_off p is s n c = ⊎_elim
       (λ h. absurd (zones_apart rx shorts fit rs v positive goal-value p (held_in rx (drawn rx rs) (near_goal rx rs) fit.long p h) n))
       (λ l. ⊎_elim
@@ -89,7 +89,7 @@ module _ (rx : Relaxed) (shorts : ℕ → ℕ) (fit : WellFormed rx shorts) (rs 
       (cases_Bool (in_zone rx.holds p)))
       c
 
-  landmark_from : (done todo : List ℕ) → ((n : ℕ) → Covered rx shorts done n → in_zone (near_start rx rs) n ≡ true) → All Started done → RunFrom rx shorts done todo → CoveredAfter rx shorts done todo (goal rx)
+  landmark_from : (done todo : List ℕ) → ((n : ℕ) → Covered rx shorts done n → in_zone (near_start rx rs) n ≡ true) → AllByRecursion Started done → RunFrom rx shorts done todo → CoveredAfter rx shorts done todo (goal rx)
       → weight_now rx rs ≤ charged rx rs todo + charged rx rs done
   landmark_from done [] h s r c = absurd (zones_apart rx shorts fit rs v positive goal-value (goal rx) (h (goal rx) c) (goal_in rx (drawn rx rs) fit.some_node))
   landmark_from done (i ∷ is) h s r c = go (λ h'. landmark_from (i ∷ done) is h' (begun, s) r.1 c) (find_below near_covered rx.nodes)

@@ -1,17 +1,17 @@
 -- The order of values, and membership in lists.
 use Rattle.std.proofs.Common.{◌≡◌, ℕ, zero, suc, ◌+◌, ◌<◌, ◌≤◌, min, max, Bool, true, false, ◌⊎◌, List, [], ◌∷◌, map, length, get_or, Some, None, sym, refl, ap, subst, inl, inr, ⊎_elim, arith}
-use Rattle.std.specs.List.{AllByRecursion as All}
+use Rattle.std.specs.List.{AllByRecursion}
 use Rattle.std.proofs.lemmas.Bool.{cases_lt}
 use Rattle.landmarks.specs.Rounds.{Value, smaller, larger, plus, above}
 use Rattle.landmarks.specs.Laws.{In, ◌≼◌, ◌≺◌}
 
 -- ---- membership
 
-pub all_in : {X : Type 0} (P : X → Type 0) (xs : List X) (x : X) → All P xs → In x xs → P x
+pub all_in : {X : Type 0} (P : X → Type 0) (xs : List X) (x : X) → AllByRecursion P xs → In x xs → P x
 all_in P [] x h i = absurd i
 all_in P (y ∷ ys) x h i = ⊎_elim (λ e. subst P e h.0) (λ j. all_in P ys x h.1 j) i
 
-pub in_all : {X : Type 0} (P : X → Type 0) (xs : List X) → ((x : X) → In x xs → P x) → All P xs
+pub in_all : {X : Type 0} (P : X → Type 0) (xs : List X) → ((x : X) → In x xs → P x) → AllByRecursion P xs
 in_all P [] h = tt
 in_all P (y ∷ ys) h = (h y (inl refl), in_all P ys (λ x i. h x (inr i)))
 

@@ -1,7 +1,7 @@
 -- How large the numbers of a question can be.
 use Rattle.std.proofs.Common.{◌≡◌, ℕ, zero, suc, ◌+◌, ◌*◌, ◌<◌, ◌≤◌, Bool, true, false, cond, ◌&&◌, ◌||◌, eqb, leb, List, [], ◌∷◌, map, length, get_or, ℤ, pos, ◌+ℤ◌, ◌-ℤ◌, ◌*ℤ◌, nat_abs, Some, None, fold, sym, refl, ap, ◌∙◌, subst, inl, inr, ⊎_elim, add-mul, one-mul, div-le_self, arith}
 use lib.IntN.{+ℤ_idr}
-use Rattle.std.specs.List.{AllByRecursion as All}
+use Rattle.std.specs.List.{AllByRecursion}
 use Rattle.std.proofs.lemmas.Nat.{mul-le}
 use Rattle.std.proofs.ByRecursion.{All-weaker}
 use Rattle.std.proofs.lemmas.Int.{ints}
@@ -38,12 +38,12 @@ use Rattle.landmarks.proofs.Shapes.{shorts, relaxed_fits, fact_reach, condition_
 term_names : (p : Problem) (l : Link) → LinkFits p Terms l → names_quantity l.kind ≡ true
 term_names p l f = or_left (eqb l.kind 1) (eqb l.kind 6) (eq-eqb l.kind 1 f.1.kind)
 
-terms_name : (p : Problem) (ls : List Link) → All (LinkFits p Terms) ls → length (quantities_of ls) ≡ length ls
+terms_name : (p : Problem) (ls : List Link) → AllByRecursion (LinkFits p Terms) ls → length (quantities_of ls) ≡ length ls
 unfolding quantities_of
 terms_name p [] h = refl
 terms_name p (l ∷ ls) h = ap length (cond-true (names_quantity l.kind) (l.subject ∷ quantities_of ls) (quantities_of ls) (term_names p l h.0)) ∙ ap suc (terms_name p ls h.1)
 
-terms_range : (p : Problem) → Keeps p → (ls : List Link) → All (LinkFits p Terms) ls → All (λ q. (1 ≤ q) × (q ≤ 16)) (quantities_of ls)
+terms_range : (p : Problem) → Keeps p → (ls : List Link) → AllByRecursion (LinkFits p Terms) ls → AllByRecursion (λ q. (1 ≤ q) × (q ≤ 16)) (quantities_of ls)
 unfolding quantities_of
 terms_range p k [] h = tt
 terms_range p k (l ∷ ls) h =
@@ -51,7 +51,7 @@ terms_range p k (l ∷ ls) h =
     let few = k.few_quantities in
     let lo = q.0 in
     let hi = q.1 in
-    subst (All (λ q. (1 ≤ q) × (q ≤ 16))) (sym (cond-true (names_quantity l.kind) (l.subject ∷ quantities_of ls) (quantities_of ls) (term_names p l h.0)))
+    subst (AllByRecursion (λ q. (1 ≤ q) × (q ≤ 16))) (sym (cond-true (names_quantity l.kind) (l.subject ∷ quantities_of ls) (quantities_of ls) (term_names p l h.0)))
     ((omega arith, omega arith), terms_range p k ls h.1)
 
 pub few_terms : (p : Problem) → Keeps p → (n : ℕ) → ChainKeeps p Terms n → length (chain p.links n) ≤ 16
@@ -67,7 +67,7 @@ few_terms p k n c =
 
 -- ---- sums over terms
 
-sum_size : (f : Link → ℤ) (b : ℕ) (ls : List Link) (a : ℤ) → All (λ l. nat_abs (f l) ≤ b) ls → nat_abs (fold (λ sum l. sum +ℤ f l) a ls) ≤ nat_abs a + length ls * b
+sum_size : (f : Link → ℤ) (b : ℕ) (ls : List Link) (a : ℤ) → AllByRecursion (λ l. nat_abs (f l) ≤ b) ls → nat_abs (fold (λ sum l. sum +ℤ f l) a ls) ≤ nat_abs a + length ls * b
 sum_size f b [] a h = omega arith
 sum_size f b (l ∷ ls) a h =
     let ih = sum_size f b ls (a +ℤ f l) h.1 in
@@ -103,7 +103,7 @@ module _ (p : Problem) (k : Keeps p) where
       go m t a b = omega (arith, ints)
 
   -- effects name a quantity at most once, so they change it by at most 200,000
-  change_small : (es : List Link) → All (LinkFits p Effects) es → Once (quantities_of es) → (q : ℕ) → nat_abs (change es q) ≤ 200000
+  change_small : (es : List Link) → AllByRecursion (LinkFits p Effects) es → Once (quantities_of es) → (q : ℕ) → nat_abs (change es q) ≤ 200000
   unfolding change quantities_of
   change_small [] f o q = omega arith
   change_small (e ∷ es) f o q = go (eqb e.kind 6) refl (eqb e.subject q) refl o (λ o'. change_small es f.1 o' q)
@@ -117,7 +117,7 @@ module _ (p : Problem) (k : Keeps p) where
       go true x true y h ih =
           let k6 = eqb-true e.kind 6 x in
           let o' = subst Once (cond-true (names_quantity e.kind) (e.subject ∷ quantities_of es) (quantities_of es) ((decides_names e.kind).1 (inr k6))) h in
-          let none = unnamed p es q f.1 (subst (λ n. All (λ m. n ≡ m → ⊥) (quantities_of es)) (eqb-true e.subject q y) o'.0) in
+          let none = unnamed p es q f.1 (subst (λ n. AllByRecursion (λ m. n ≡ m → ⊥) (quantities_of es)) (eqb-true e.subject q y) o'.0) in
           subst (λ z. nat_abs z ≤ 200000) (sym (ap (λ z. e.amount +ℤ z) none ∙ +ℤ_idr e.amount)) (f.0.1.change k6).1
       go true x false y h ih = ih (named (names_quantity e.kind) h)
       go false x b y h ih = ih (named (names_quantity e.kind) h)

@@ -1,6 +1,6 @@
 -- LM-cut is sound: its estimate is a lower bound on the cost of every plan, dead only where there is none, and its landmark records stand.
 use Rattle.std.proofs.Common.{◌≡◌, ℕ, ◌+◌, ◌-◌, ◌*◌, ◌<◌, ◌≤◌, Bool, true, false, cond, ◌&&◌, eqb, List, [], ◌∷◌, length, get_or, sym, refl, ap, ◌∙◌, subst, ⊎_elim, mul-add, arith}
-use Rattle.std.specs.List.{AllByRecursion as All}
+use Rattle.std.specs.List.{AllByRecursion}
 use Rattle.std.proofs.lemmas.List.{get_or-map, length-map}
 use Rattle.std.proofs.lemmas.Bool.{cases_Bool, cond-true, cond-false}
 use Rattle.tables.specs.Check.{accepted}
@@ -39,7 +39,7 @@ module _ (p : Problem) (s : State) where
   helper_cost : get_or costs (length p.moves) 0 ≡ 0
   helper_cost = costs_at (length p.moves) (omega arith) ∙ ap (λ (x : Action). 5040 * x.cost) (helper_action p s)
 
-  spent_is : (ms : List ℕ) → All (λ m. (1 ≤ m) × (m ≤ length p.moves)) ms → spent costs (places p ms) ≡ 5040 * cost p ms
+  spent_is : (ms : List ℕ) → AllByRecursion (λ m. (1 ≤ m) × (m ≤ length p.moves)) ms → spent costs (places p ms) ≡ 5040 * cost p ms
   unfolding cost
   spent_is [] h = let z = helper_cost in omega arith
   spent_is (m ∷ ms) h =
@@ -48,7 +48,7 @@ module _ (p : Problem) (s : State) where
       let d = mul-add 5040 (cost_of p m) (cost p ms) in
       omega arith
 
-  charged_places : (gs : List Ground) (k : ℕ) (ms : List ℕ) → All (λ m. (1 ≤ m) × (m ≤ length p.moves)) ms → charged_run gs k (places p ms) ≡ charged_along gs k ms + charged_in gs k (1 + length p.moves)
+  charged_places : (gs : List Ground) (k : ℕ) (ms : List ℕ) → AllByRecursion (λ m. (1 ≤ m) × (m ≤ length p.moves)) ms → charged_run gs k (places p ms) ≡ charged_along gs k ms + charged_in gs k (1 + length p.moves)
   charged_places gs k [] h = omega arith
   charged_places gs k (m ∷ ms) h =
       let ih = charged_places gs k ms h.1 in
@@ -84,7 +84,7 @@ module _ (p : Problem) (k : Keeps p) (s : State) where
         rounds_afford (relaxed p s) (shorts p s) (relaxed_fits p s k) (places p ms) r.run (subst (CoveredAfter (relaxed p s) (shorts p s) [] (places p ms)) goal_is r.wins)
         (pairs (relaxed p s).actions + 1) 1 0 (costs p s)
 
-    plan_moves : (ms : List ℕ) → PlanFrom p s ms → All (λ m. (1 ≤ m) × (m ≤ length p.moves)) ms
+    plan_moves : (ms : List ℕ) → PlanFrom p s ms → AllByRecursion (λ m. (1 ≤ m) × (m ≤ length p.moves)) ms
     plan_moves ms plan = (plan_runs p k s plan.0 ms i plan.1 plan.2).moves
 
     -- dead only where there is no plan

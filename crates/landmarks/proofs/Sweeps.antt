@@ -1,6 +1,6 @@
 -- The sweeps fall, and settle after as many as there are nodes; and the settled values are the only justified valuation.
 use Rattle.std.proofs.Common.{◌≡◌, ℕ, zero, suc, ◌+◌, ◌-◌, ◌<◌, ◌≤◌, Bool, true, false, cond, not, eqb, ◌⊎◌, List, [], ◌∷◌, length, get_or, Some, None, filter, sym, refl, ap, ◌∙◌, subst, inl, inr, ⊎_elim, zero-add, arith}
-use Rattle.std.specs.List.{AllByRecursion as All}
+use Rattle.std.specs.List.{AllByRecursion}
 use Rattle.std.proofs.ByRecursion.{All-weaker}
 use Rattle.std.proofs.lemmas.List.{get_or_past, get_or-map, length-map, same_lists, get_or_default}
 use Rattle.std.proofs.lemmas.Bool.{cases_lt, cases_eq, cases_Bool, eqb-true, eq-eqb, ne_eqb, cond-true, cond-false, cond_both, true≢false, false≢true}
@@ -15,11 +15,11 @@ use Rattle.landmarks.proofs.Orders.{some_none, ≼_refl, ≼_eq, ≼_trans, ≼_
 abbrev others : ℕ → ℕ → Bool
 others n x = not (eqb x n)
 
-apart_kept : (x : ℕ) (n : ℕ) (xs : List ℕ) → All (λ y. x ≡ y → ⊥) xs → All (λ y. x ≡ y → ⊥) (filter (others n) xs)
+apart_kept : (x : ℕ) (n : ℕ) (xs : List ℕ) → AllByRecursion (λ y. x ≡ y → ⊥) xs → AllByRecursion (λ y. x ≡ y → ⊥) (filter (others n) xs)
 apart_kept x n [] h = tt
 apart_kept x n (y ∷ ys) h = go (others n y) (apart_kept x n ys h.1)
   where
-    go : (b : Bool) → All (λ z. x ≡ z → ⊥) (filter (others n) ys) → All (λ z. x ≡ z → ⊥) (cond b (y ∷ filter (others n) ys) (filter (others n) ys))
+    go : (b : Bool) → AllByRecursion (λ z. x ≡ z → ⊥) (filter (others n) ys) → AllByRecursion (λ z. x ≡ z → ⊥) (cond b (y ∷ filter (others n) ys) (filter (others n) ys))
     go true ih = (h.0, ih)
     go false ih = ih
 
@@ -31,14 +31,14 @@ once_kept n (x ∷ xs) h = go (others n x) (once_kept n xs h.1)
     go true ih = (apart_kept x n xs h.0, ih)
     go false ih = ih
 
-none_kept : (n : ℕ) (xs : List ℕ) → All (λ y. n ≡ y → ⊥) xs → filter (others n) xs ≡ xs
+none_kept : (n : ℕ) (xs : List ℕ) → AllByRecursion (λ y. n ≡ y → ⊥) xs → filter (others n) xs ≡ xs
 none_kept n [] h = refl
 none_kept n (x ∷ xs) h = ap (λ b. cond (not b) (x ∷ filter (others n) xs) (filter (others n) xs)) (ne_eqb x n (λ e. h.0 (sym e))) ∙ ap (λ ys. x ∷ ys) (none_kept n xs h.1)
 
 one_gone : (n : ℕ) (xs : List ℕ) → Once xs → length xs ≤ length (filter (others n) xs) + 1
 one_gone n [] h = omega arith
 one_gone n (x ∷ xs) h = ⊎_elim
-    (λ e. let z = ap length (none_kept n xs (subst (λ k. All (λ y. k ≡ y → ⊥) xs) e h.0)) in
+    (λ e. let z = ap length (none_kept n xs (subst (λ k. AllByRecursion (λ y. k ≡ y → ⊥) xs) e h.0)) in
     let c : filter (others n) (x ∷ xs) ≡ filter (others n) xs = ap (λ b. cond (not b) (x ∷ filter (others n) xs) (filter (others n) xs)) (eq-eqb x n e) in
     let d = ap length c in omega arith)
     (λ ne. let ih = one_gone n xs h.1 in
@@ -46,15 +46,15 @@ one_gone n (x ∷ xs) h = ⊎_elim
     let d : length (filter (others n) (x ∷ xs)) ≡ suc (length (filter (others n) xs)) = ap length c in omega arith)
     (cases_eq x n)
 
-kept_below : (n : ℕ) (xs : List ℕ) → All (λ x. x < suc n) xs → All (λ x. x < n) (filter (others n) xs)
+kept_below : (n : ℕ) (xs : List ℕ) → AllByRecursion (λ x. x < suc n) xs → AllByRecursion (λ x. x < n) (filter (others n) xs)
 kept_below n [] h = tt
 kept_below n (x ∷ xs) h = go (eqb x n) refl (kept_below n xs h.1)
   where
-    go : (b : Bool) → eqb x n ≡ b → All (λ y. y < n) (filter (others n) xs) → All (λ y. y < n) (cond (not b) (x ∷ filter (others n) xs) (filter (others n) xs))
+    go : (b : Bool) → eqb x n ≡ b → AllByRecursion (λ y. y < n) (filter (others n) xs) → AllByRecursion (λ y. y < n) (cond (not b) (x ∷ filter (others n) xs) (filter (others n) xs))
     go true e ih = ih
     go false e ih = let ne = Rattle.std.proofs.lemmas.Bool.eqb-false x n e in let l = h.0 in let k : x < n = ⊎_elim (λ s. absurd (ne s)) (λ d. ⊎_elim (λ y. y) (λ y. absurd (omega arith)) d) (Rattle.std.proofs.lemmas.Bool.cases_order x n) in (k, ih)
 
-pub pigeonhole : (n : ℕ) (xs : List ℕ) → Once xs → All (λ x. x < n) xs → length xs ≤ n
+pub pigeonhole : (n : ℕ) (xs : List ℕ) → Once xs → AllByRecursion (λ x. x < n) xs → length xs ≤ n
 pigeonhole zero [] o h = omega arith
 pigeonhole zero (x ∷ xs) o h = let l = h.0 in absurd (omega arith)
 pigeonhole (suc n) xs o h =
@@ -291,7 +291,7 @@ module _ (rx : Relaxed) (qs : List Loaded) (long : length rx.holds ≡ rx.nodes)
     list : List ℕ
     many : length list ≡ suc k
     once : Once list
-    each : All (Falling k v) list
+    each : AllByRecursion (Falling k v) list
 
   later : (k : ℕ) (v w : Value) → v ≼ w → (n : ℕ) → Falling k v n → Falling (suc k) w n
   later k v w h n f = record { inside = f.inside; step = f.step; soon = (let s = f.soon in omega arith); fell = f.fell; low = ≼_trans (value_at (S (suc f.step)) n) v w f.low h }

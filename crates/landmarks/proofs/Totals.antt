@@ -1,6 +1,6 @@
 -- All rounds together: a run that covers the goal pays for the total, and no action is charged more than its cost.
 use Rattle.std.proofs.Common.{◌≡◌, ℕ, zero, suc, ◌+◌, ◌-◌, ◌<◌, ◌≤◌, Bool, true, false, cond, ◌&&◌, ◌||◌, eqb, leb, ◌⊎◌, List, [], ◌∷◌, ◌++◌, length, get_or, Some, None, sym, refl, ap, ◌∙◌, inl, inr, ⊎_elim, arith}
-use Rattle.std.specs.List.{AllByRecursion as All}
+use Rattle.std.specs.List.{AllByRecursion}
 use Rattle.std.proofs.lemmas.List.{get_or-map, length-map}
 use Rattle.std.proofs.lemmas.Bool.{and_from, or_parts, cond-true, cond-false, eqb-false, eq-eqb, ne_eqb, true≢false}
 use Rattle.landmarks.specs.Relaxed.{Reach, Relaxed, goal}
@@ -102,7 +102,7 @@ abbrev pub spent : List ℕ → List ℕ → ℕ
 spent rs [] = 0
 spent rs (i ∷ is) = get_or rs i 0 + spent rs is
 
-pub spent_rest : (rx : Relaxed) (shorts : ℕ → ℕ) → WellFormed rx shorts → (rs is : List ℕ) → All (λ i. i < length rx.actions) is → spent (rest_now rx rs) is + charged rx rs is ≡ spent rs is
+pub spent_rest : (rx : Relaxed) (shorts : ℕ → ℕ) → WellFormed rx shorts → (rs is : List ℕ) → AllByRecursion (λ i. i < length rx.actions) is → spent (rest_now rx rs) is + charged rx rs is ≡ spent rs is
 spent_rest rx shorts fit rs [] h = refl
 spent_rest rx shorts fit rs (i ∷ is) h =
     let a = rest_at rx rs i h.0 in
@@ -110,7 +110,7 @@ spent_rest rx shorts fit rs (i ∷ is) h =
     let ih = spent_rest rx shorts fit rs is h.1 in
     omega arith
 
-pub run_inside : (rx : Relaxed) (shorts : ℕ → ℕ) (done todo : List ℕ) → RunFrom rx shorts done todo → All (λ i. i < length rx.actions) todo
+pub run_inside : (rx : Relaxed) (shorts : ℕ → ℕ) (done todo : List ℕ) → RunFrom rx shorts done todo → AllByRecursion (λ i. i < length rx.actions) todo
 run_inside rx shorts done [] r = tt
 run_inside rx shorts done (i ∷ is) r = (r.0.inside, run_inside rx shorts (i ∷ done) is r.1)
 

@@ -36,7 +36,7 @@
 --   GoalZoneOnly, StartZoneOnly   a zone within the goal zone, or the start zone, that is closed is that zone. So any order of adding
 --                    nodes finds it
 use Rattle.std.specs.Prelude.{◌≡◌, ℕ, ◌+◌, ◌*◌, ◌^◌, ◌<◌, ◌≤◌, min, Bool, true, false, cond, ◌&&◌, ◌⊎◌, List, [], ◌∷◌, length, drop, Some, None, ◌==◌, slice_index, unsigned_abs}
-use Rattle.std.specs.List.{AllByRecursion as All}
+use Rattle.std.specs.List.{AllByRecursion}
 use Rattle.landmarks.specs.Relaxed.{Reach, Action, Relaxed, goal, shortfall, gain_of, relaxed}
 use Rattle.landmarks.specs.Rounds.{ceil_div, weight, Value, plus, Loaded, loaded, value_at, largest, values, Edges, in_zone, leads_in, goal_zone, led_to, start_zone, Crossing, cut, cut_weight, charge_of, Found, cap, rounds, outcome, estimate, grounds}
 use Rattle.landmarks.specs.declared.Ground.{Ground}
@@ -218,7 +218,7 @@ Before g h = (g.round < h.round) ⊎ ((g.round ≡ h.round) × (g.number < h.num
 
 abbrev pub Ordered : List Ground → Type 0
 Ordered [] = Unit {0}
-Ordered (g ∷ gs) = All (Before g) gs × Ordered gs
+Ordered (g ∷ gs) = AllByRecursion (Before g) gs × Ordered gs
 
 -- the weights of the rounds after the one that was counted last
 abbrev pub weights_from : ℕ → List Ground → ℕ

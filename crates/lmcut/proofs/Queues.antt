@@ -7,7 +7,7 @@ use Rattle.std.proofs.lemmas.List.Sums.{sum_by-cons, get_or-le-sum_by}
 use Rattle.std.proofs.lemmas.Bool.{cases_eq, eq-eqb, ne_eqb, cond-true, cond-false, true≢false}
 use Rattle.std.specs.Cmp.{IsTotalOrder, nat_cmp_total, on_total, tied_itself as tied_with_itself}
 use Rattle.std.specs.Ordering.{is_eq, is_lt, ordering_reverse, ordering_then, nat_cmp, on}
-use Rattle.std.specs.List.{ContainsAt as Has, AllByRecursion as All}
+use Rattle.std.specs.List.{ContainsAt as Has, AllByRecursion}
 use Rattle.order.specs.declared.Heap.{Heap}
 use Rattle.order.specs.Laws.{held, room, First, Lawful, Lowered, Popped, Pushed, Unmet}
 use Rattle.order.specs.Ranks.{AtMost}
@@ -93,7 +93,7 @@ one_only n (x ∷ xs) l y z h i a b = go (one_only n xs (let s = sum_by-cons (na
 abbrev numbers : List Node → List ℕ
 numbers xs = map (λ (z : Node). z.number) xs
 
-none_named : (n : ℕ) (xs : List Node) → sum_by (named n) xs ≡ 0 → All (λ y. n ≡ y → ⊥) (numbers xs)
+none_named : (n : ℕ) (xs : List Node) → sum_by (named n) xs ≡ 0 → AllByRecursion (λ y. n ≡ y → ⊥) (numbers xs)
 none_named n [] h = tt
 none_named n (x ∷ xs) h =
     let s = sum_by-cons (named n) x xs in

@@ -5,7 +5,7 @@ use lib.Bits.{bit_and, bit_or, bit_xor}
 use Rattle.std.proofs.lemmas.Nat.{pow_pos, xor_lt, and_le_l}
 use Rattle.std.proofs.lemmas.List.{get_or-set_same, get_or-set_other, length-set, length-replicate}
 use Rattle.std.proofs.lemmas.Bool.{cases_lt, eq-eqb, ne_eqb, lt-ltb, le-ltb, or_right, true≢false}
-use Rattle.std.specs.List.{AllByRecursion as All}
+use Rattle.std.specs.List.{AllByRecursion}
 use Rattle.tables.specs.Chains.{chain}
 use Rattle.tables.specs.Problem.{Problem}
 use Rattle.tables.specs.Rules.{LinkFits, Keeps}
@@ -25,7 +25,7 @@ use Rattle.lmcut_words.proofs.Prepared.{no_bit}
 -- ---- the gain on a condition
 
 -- over terms of an accepted problem, the sum of weight × change is the gain
-weighed_gain : (p : Problem) → Keeps p → (cs : List ℤ) (es : List Link) → Changes cs es → (a : ℤ) (ts : List Link) → All (LinkFits p Terms) ts → fold (weigh cs) a ts ≡ fold (add_gain es) a ts
+weighed_gain : (p : Problem) → Keeps p → (cs : List ℤ) (es : List Link) → Changes cs es → (a : ℤ) (ts : List Link) → AllByRecursion (LinkFits p Terms) ts → fold (weigh cs) a ts ≡ fold (add_gain es) a ts
 weighed_gain p k cs es w a [] h = refl
 weighed_gain p k cs es w a (t ∷ ts) h =
     let q = term_of p t k h.0 in
@@ -64,7 +64,7 @@ new_bit s es n = holds_without (made es) s.facts n ∙ ap (λ b. b && not (fact_
 high_bit : (w k n : ℕ) → w < 2 ^ k → k ≤ n → fact_holds w n ≡ false
 high_bit w k n h l = let m = pow_mono {i = k} {j = n} l in let b : w < 2 ^ n = omega arith in ap (λ z. eqb (z % 2) 1) (div-eq_of_lt b)
 
-module _ (p : Problem) (s : State) (es : List Link) (fit : All (LinkFits p Effects) es) where
+module _ (p : Problem) (s : State) (es : List Link) (fit : AllByRecursion (LinkFits p Effects) es) where
   set_below : made es < 2 ^ p.head.facts
   set_below = folded_below p 4 0 es (inl refl) fit (pow_pos p.head.facts)
 

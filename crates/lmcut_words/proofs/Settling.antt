@@ -1,7 +1,7 @@
 -- Finding values lowest first: what is known while nodes leave the open ones, and that what it ends with is justified.
 use Rattle.std.proofs.Common.{◌≡◌, ℕ, zero, suc, ◌+◌, ◌-◌, ◌*◌, ◌^◌, ◌<◌, ◌≤◌, Bool, true, false, cond, not, ◌&&◌, eqb, ltb, ◌⊎◌, List, [], ◌∷◌, length, get_or, take, Some, None, sym, refl, ap, ◌∙◌, subst, inl, inr, ⊎_elim, arith}
 use lib.Bits.{bit_and, bit_xor}
-use Rattle.std.specs.List.{AllByRecursion as All}
+use Rattle.std.specs.List.{AllByRecursion}
 use Rattle.std.proofs.lemmas.Nat.{mul-le}
 use Rattle.std.proofs.lemmas.List.{get_or-take, get_or_past, length-take-le}
 use Rattle.std.proofs.lemmas.Bool.{cases_lt, cases_eq, cases_Bool, eqb-true, eq-eqb, ne_eqb, lt-ltb, ltb-true, cond-true, cond-false, cond_both, and_parts, and_from, true≢false, false≢true}
@@ -57,7 +57,7 @@ pub record Going (q : Question) (rs xs : List ℕ) (w top : ℕ) (due : ℕ → 
   pub done : List ℕ
   pub rank : ℕ → ℕ
   pub once : Once done
-  pub within : All (λ n. n < q.nodes - 1) done
+  pub within : AllByRecursion (λ n. n < q.nodes - 1) done
   pub done_shut : (n : ℕ) → In n done → Shut w n
   pub rank_low : (n : ℕ) → n + 1 < q.nodes → Shut w n → rank n < length done
   pub rank_most : (n : ℕ) → rank n < q.nodes
@@ -215,7 +215,7 @@ module _ (q : Question) (rs xs : List ℕ) (w top p : ℕ) (g : Going q rs xs w 
 
   few : length g.done < q.nodes - 1
   few =
-      let apart_from : All (λ y. p ≡ y → ⊥) g.done = in_all (λ y. p ≡ y → ⊥) g.done (λ y i e. was_shut y (g.done_shut y i) (sym e)) in
+      let apart_from : AllByRecursion (λ y. p ≡ y → ⊥) g.done = in_all (λ y. p ≡ y → ⊥) g.done (λ y i e. was_shut y (g.done_shut y i) (sym e)) in
       let l = lowest.inside in
       let h = pigeonhole (q.nodes - 1) (p ∷ g.done) (apart_from, g.once) (omega arith, g.within) in omega arith
 
@@ -363,7 +363,7 @@ module _ (q : Question) (rs xs : List ℕ) (w : ℕ) (f : Fits q) (b : Begun q x
       (cases_Bool (ltb n (q.nodes - 1) && get_or q.holds n false))
 
   -- one node that holds stands for all that do
-  going_from : (done : List ℕ) → Once done → All (λ n. n < q.nodes - 1) done → ((n : ℕ) → In n done → Shut w n) → ((n : ℕ) → n + 1 < q.nodes → Shut w n → 0 < length done) → Going q rs xs w 0 (ready_at q w)
+  going_from : (done : List ℕ) → Once done → AllByRecursion (λ n. n < q.nodes - 1) done → ((n : ℕ) → In n done → Shut w n) → ((n : ℕ) → n + 1 < q.nodes → Shut w n → 0 < length done) → Going q rs xs w 0 (ready_at q w)
   going_from done once within shut some =
       record {
         long = b.long;

@@ -2,7 +2,7 @@
 -- `countBy p` is a `sumBy`, so each lemma on sums counts too.
 use Rattle.std.proofs.Common.{◌≡◌, ℕ, zero, suc, ◌+◌, ◌-◌, ◌<◌, ◌≤◌, Bool, true, false, ◌⊎◌, List, ◌∷◌, length, get_or, take, drop, IfSome, Some, None, Ok, Err, MatchBool, sum_by, Option, Result, Ordering, Equal, sym, refl, ap, ◌∙◌, subst, inl, inr, ⊎_elim, arith, length-take, MatchOption, MatchResult}
 use Rattle.std.specs.Cmp.{IsTotalOrder}
-use Rattle.std.specs.List.{ContainsAt as Has, AllByRecursion as All}
+use Rattle.std.specs.List.{ContainsAt as Has, AllByRecursion}
 use Rattle.std.specs.List.Sorted.{IsPermutation}
 use Rattle.std.proofs.ByRecursion.{all-has, has_get_or, all_shuffled, has_shuffled}
 use Rattle.std.proofs.lemmas.List.{get_or-drop, get_or-take, length-take-le}
@@ -35,10 +35,10 @@ module _ {X : Type 0} where
     has_only : (z : X) → Has ys z → (z ≡ x) ⊎ Has xs z
     has_only z h = has_cons x xs z (has_shuffled ys (x ∷ xs) z (IsPermutation-sym (x ∷ xs) ys s) h)
 
-    all_with : (P : X → Type 0) → P x → All P xs → All P ys
+    all_with : (P : X → Type 0) → P x → AllByRecursion P xs → AllByRecursion P ys
     all_with P p h = all_shuffled P (x ∷ xs) ys s (p, h)
 
-    all_without : (P : X → Type 0) → All P ys → P x × All P xs
+    all_without : (P : X → Type 0) → AllByRecursion P ys → P x × AllByRecursion P xs
     all_without P h = all_shuffled P ys (x ∷ xs) (IsPermutation-sym (x ∷ xs) ys s) h
 
     sum_with : (f : X → ℕ) → sum_by f ys ≡ f x + sum_by f xs
@@ -56,10 +56,10 @@ module _ {X : Type 0} where
     pub pushed_only : (z : X) → Has (held k) z → (z ≡ x) ⊎ Has (held h) z
     pushed_only = has_only x (held h) (held k) p.entries
 
-    pub pushed_all : (P : X → Type 0) → P x → All P (held h) → All P (held k)
+    pub pushed_all : (P : X → Type 0) → P x → AllByRecursion P (held h) → AllByRecursion P (held k)
     pushed_all = all_with x (held h) (held k) p.entries
 
-    pub pushed_all_back : (P : X → Type 0) → All P (held k) → P x × All P (held h)
+    pub pushed_all_back : (P : X → Type 0) → AllByRecursion P (held k) → P x × AllByRecursion P (held h)
     pushed_all_back = all_without x (held h) (held k) p.entries
 
     pub pushed_sum : (f : X → ℕ) → sum_by f (held k) ≡ f x + sum_by f (held h)
@@ -80,10 +80,10 @@ module _ {X : Type 0} where
     pub popped_only : (z : X) → Has (held h) z → (z ≡ x) ⊎ Has (held k) z
     popped_only = has_only x (held k) (held h) back
 
-    pub popped_all : (P : X → Type 0) → All P (held h) → P x × All P (held k)
+    pub popped_all : (P : X → Type 0) → AllByRecursion P (held h) → P x × AllByRecursion P (held k)
     popped_all = all_without x (held k) (held h) back
 
-    pub popped_all_back : (P : X → Type 0) → P x → All P (held k) → All P (held h)
+    pub popped_all_back : (P : X → Type 0) → P x → AllByRecursion P (held k) → AllByRecursion P (held h)
     popped_all_back = all_with x (held k) (held h) back
 
     pub popped_sum : (f : X → ℕ) → sum_by f (held h) ≡ f x + sum_by f (held k)
@@ -113,10 +113,10 @@ module _ {X : Type 0} where
     pub lowered_was : (o : IsTotalOrder R) → ((a b : X) → R a b ≡ Equal → a ≡ b) → l.was ≡ x
     lowered_was o same = same l.was x (l.tied o)
 
-    pub lowered_all : (P : X → Type 0) → P y → All P (held h) → All P (held k)
+    pub lowered_all : (P : X → Type 0) → P y → AllByRecursion P (held h) → AllByRecursion P (held k)
     lowered_all P p a = all_with y l.others (held k) l.after P p (all_without l.was l.others (held h) had P a).1
 
-    pub lowered_all_back : (P : X → Type 0) → P l.was → All P (held k) → All P (held h)
+    pub lowered_all_back : (P : X → Type 0) → P l.was → AllByRecursion P (held k) → AllByRecursion P (held h)
     lowered_all_back P p a = all_with l.was l.others (held h) had P p (all_without y l.others (held k) l.after P a).1
 
     pub lowered_sum : (f : X → ℕ) → sum_by f (held k) + f l.was ≡ sum_by f (held h) + f y
@@ -144,24 +144,24 @@ module _ {X : Type 0} where
   pub same_held : (h k : Heap X) → Same h k → held k ≡ held h
   same_held h k s = λ i. take (s.0 i) (s.1 i)
 
-  pub empty_all : (h : Heap X) → h.len ≡ 0 → (P : X → Type 0) → All P (held h)
-  empty_all h z P = subst (λ n. All P (take n h.entries.now)) (sym z) tt
+  pub empty_all : (h : Heap X) → h.len ≡ 0 → (P : X → Type 0) → AllByRecursion P (held h)
+  empty_all h z P = subst (λ n. AllByRecursion P (take n h.entries.now)) (sym z) tt
 
-  pub push_all : (h : Heap X) (x : X) (k : Heap X) (r : Result (Unit {0}) X) → MatchResult r (λ _. Pushed h x k) (λ y. Refused h x y k) → (P : X → Type 0) → P x → All P (held h) → All P (held k)
+  pub push_all : (h : Heap X) (x : X) (k : Heap X) (r : Result (Unit {0}) X) → MatchResult r (λ _. Pushed h x k) (λ y. Refused h x y k) → (P : X → Type 0) → P x → AllByRecursion P (held h) → AllByRecursion P (held k)
   push_all h x k (Ok u) p P new all = pushed_all p P new all
-  push_all h x k (Err y) p P new all = subst (All P) (sym (same_held h k p.2)) all
+  push_all h x k (Err y) p P new all = subst (AllByRecursion P) (sym (same_held h k p.2)) all
 
-  pub pop_all : (h k : Heap X) (r : Option X) → MatchOption r (Same h k) (λ x. Popped h x k) → (P : X → Type 0) → All P (held h) → All P (held k)
-  pop_all h k None p P all = subst (All P) (sym (same_held h k p)) all
+  pub pop_all : (h k : Heap X) (r : Option X) → MatchOption r (Same h k) (λ x. Popped h x k) → (P : X → Type 0) → AllByRecursion P (held h) → AllByRecursion P (held k)
+  pop_all h k None p P all = subst (AllByRecursion P) (sym (same_held h k p)) all
   pop_all h k (Some x) p P all = (popped_all p P all).1
 
-  pub pop_each : (h k : Heap X) (r : Option X) → MatchOption r (Same h k) (λ x. Popped h x k) → (P : X → Type 0) → All P (held h) → IfSome r P
+  pub pop_each : (h k : Heap X) (r : Option X) → MatchOption r (Same h k) (λ x. Popped h x k) → (P : X → Type 0) → AllByRecursion P (held h) → IfSome r P
   pop_each h k None p P all = tt
   pop_each h k (Some x) p P all = (popped_all p P all).0
 
-  pub lower_all : (R : X → X → Ordering) (h : Heap X) (x y : X) (k : Heap X) (r : Bool) → MatchBool r (Lowered R h x y k) (Unmet R h x y × Same h k) → (P : X → Type 0) → P y → All P (held h) → All P (held k)
+  pub lower_all : (R : X → X → Ordering) (h : Heap X) (x y : X) (k : Heap X) (r : Bool) → MatchBool r (Lowered R h x y k) (Unmet R h x y × Same h k) → (P : X → Type 0) → P y → AllByRecursion P (held h) → AllByRecursion P (held k)
   lower_all R h x y k true p P new all = lowered_all p P new all
-  lower_all R h x y k false p P new all = subst (All P) (sym (same_held h k p.1)) all
+  lower_all R h x y k false p P new all = subst (AllByRecursion P) (sym (same_held h k p.1)) all
 
   -- ---- how many are held, and where
 

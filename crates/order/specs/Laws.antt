@@ -16,7 +16,7 @@ use Rattle.std.specs.declared.cmp.Ordering.TheVariants.{Equal, Greater}
 use Rattle.std.specs.declared.cmp.Ordering.{Ordering}
 use Rattle.std.specs.Cmp.{IsTotalOrder}
 use Rattle.std.specs.Ordering.{is_eq}
-use Rattle.std.specs.List.{ContainsAt as Has, AllByRecursion as All}
+use Rattle.std.specs.List.{ContainsAt as Has, AllByRecursion}
 use Rattle.std.specs.List.Sorted.{IsPermutation}
 use Rattle.order.specs.declared.Heap.{Heap}
 use Rattle.order.specs.Ranks.{AtMost, Least}
@@ -56,7 +56,7 @@ pub record Popped {X : Type 0} (h : Heap X) (x : X) (k : Heap X) : Type 0 where
   pub past : drop k.len k.entries.now ≡ x ∷ drop h.len h.entries.now
 
 abbrev pub Lacks : {X : Type 0} → (X → X → Ordering) → Heap X → X → Type 0
-Lacks R h x = (o : IsTotalOrder R) → All (λ z. is_eq (R z x) ≡ false) (held h)
+Lacks R h x = (o : IsTotalOrder R) → AllByRecursion (λ z. is_eq (R z x) ≡ false) (held h)
 
 abbrev pub Found : {X : Type 0} → (X → X → Ordering) → Heap X → X → ℕ → Type 0
 Found {X} R h x i = (i < h.len) × ((o : IsTotalOrder R) (d : X) → R (slice_index_or h.entries.now i d) x ≡ Equal)

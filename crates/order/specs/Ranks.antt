@@ -7,14 +7,14 @@ use Rattle.std.specs.Prelude.{◌≡◌, Bool, true, List}
 use Rattle.std.specs.declared.cmp.Ordering.{Ordering}
 use Rattle.std.specs.Cmp.{IsTotalOrder}
 use Rattle.std.specs.Ordering.{is_eq, is_le, is_lt}
-use Rattle.std.specs.List.{AllByRecursion as All}
+use Rattle.std.specs.List.{AllByRecursion}
 
 module _ {X : Type 0} {R : X → X → Ordering} (o : IsTotalOrder R) where
   abbrev pub AtMost : X → X → Type 0
   AtMost x y = is_le (R x y) ≡ true
 
   abbrev pub Least : X → List X → Type 0
-  Least x xs = All (AtMost x) xs
+  Least x xs = AllByRecursion (AtMost x) xs
 
 abbrev pub Tells : {X : Type 0} → (X → X → Ordering) → X → X → Bool → Type 0
 Tells R x y r = (o : IsTotalOrder R) → is_lt (R x y) ≡ r

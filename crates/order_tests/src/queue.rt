@@ -2,7 +2,7 @@
 ghost use Rattle.std.specs.Prelude.{◌≡◌, IfSome, MatchBool, MatchOption};
 ghost use Rattle.order.specs.Laws.{Lawful, held, Same, First, Popped};
 ghost use Rattle.order_tests.specs.Numbered.{orders, Small, Added, Declined, Cleared};
-ghost use Rattle.std.specs.List.{AllByRecursion as All};
+ghost use Rattle.std.specs.List.{AllByRecursion};
 
 use crate::ByTwo;
 use order::Heap;
@@ -11,7 +11,7 @@ use order::Heap;
 pub struct Queue<'a> {
     heap: Heap<'a, ByTwo>,
     ghost lawful: { Lawful orders heap },
-    ghost small: { ∥ All Small (held heap) ∥₁ },
+    ghost small: { ∥ AllByRecursion Small (held heap) ∥₁ },
 }
 
 impl<'a> Queue<'a> {

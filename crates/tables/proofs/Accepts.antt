@@ -3,7 +3,7 @@ use Rattle.std.proofs.Common.{◌≡◌, ℕ, ◌+◌, ◌^◌, ◌<◌, ◌≤�
 use lib.Signed.{le_z}
 use Rattle.std.proofs.lemmas.Bool.{true≢false, leb-true, ltb-true, le-leb, lt-ltb, eqb-true, ne_eqb, eqb-false, and_from, or_parts, or_from, not-true, not_from_false, false≢true, cond_both, cases_eq}
 use Rattle.std.proofs.lemmas.Bool.Decides.{nat_tests, Decides-and, Decides-or, Decides-eqb}
-use Rattle.std.specs.List.{AllByRecursion as All}
+use Rattle.std.specs.List.{AllByRecursion}
 use Rattle.tables.specs.Chains.{Visit, link, missing, visits, links_of, chain}
 use Rattle.tables.specs.Check.{told, ◌or◌, unless, owned, at_link, among, also, quantity_keeps, kind_fits, subject_fits, amount_fits, next_fits, names_quantity, link_fault, visits_fault, chain_fault, each_fault, sizes_fault, quantity_fault, condition_fault, move_fault, first_fault, accepted}
 use Rattle.tables.specs.Problem.{Problem}
@@ -40,7 +40,7 @@ clear_link : {P : Type 0} (o : Option LinkFault) (n : ℕ) → Clear o P → Cle
 clear_link None n c = (λ _. c.0 refl, λ _. refl)
 clear_link (Some f) n c = (λ e. absurd (some_none e), λ h. absurd (some_none (c.1 h)))
 
-clear_each : {X : Type 0} (f : ℕ → X → Option TaskFault) (P : X → Type 0) → ((k : ℕ) (x : X) → Clear (f k x) (P x)) → (k : ℕ) (xs : List X) → Clear (each_fault f k xs) (All P xs)
+clear_each : {X : Type 0} (f : ℕ → X → Option TaskFault) (P : X → Type 0) → ((k : ℕ) (x : X) → Clear (f k x) (P x)) → (k : ℕ) (xs : List X) → Clear (each_fault f k xs) (AllByRecursion P xs)
 unfolding each_fault
 clear_each f P c k [] = (λ _. tt, λ _. refl)
 clear_each f P c k (x ∷ xs) = clear_or (f k x) (each_fault f (k + 1) xs) (c k x) (clear_each f P c (k + 1) xs)
@@ -166,7 +166,7 @@ abbrev Apart : List ℕ → List Link → Type 0
 Apart named [] = Unit {0}
 Apart named (l ∷ ls) = Fresh (among named l.subject) l.kind × Apart (also l named) ls
 
-clear_visits : (p : Problem) (r : Role) (named : List ℕ) (vs : List Visit) → Clear (visits_fault p r named vs) (All (VisitKeeps p r) vs × Apart named (links_of vs))
+clear_visits : (p : Problem) (r : Role) (named : List ℕ) (vs : List Visit) → Clear (visits_fault p r named vs) (AllByRecursion (VisitKeeps p r) vs × Apart named (links_of vs))
 unfolding visits_fault links_of
 clear_visits p r named [] = (λ _. (tt, tt), λ _. refl)
 clear_visits p r named (missing n ∷ vs) = (λ e. absurd (some_none e), λ h. absurd h.0.0)
@@ -178,16 +178,16 @@ clear_visits p r named (link n l ∷ vs) =
 
 -- so no quantity is named twice, and the other way round
 abbrev Others : List ℕ → List ℕ → Type 0
-Others named qs = All (λ q. among named q ≡ false) qs
+Others named qs = AllByRecursion (λ q. among named q ≡ false) qs
 
-others_cons : (s : ℕ) (named qs : List ℕ) → Others (s ∷ named) qs → All (λ q. s ≡ q → ⊥) qs × Others named qs
+others_cons : (s : ℕ) (named qs : List ℕ) → Others (s ∷ named) qs → AllByRecursion (λ q. s ≡ q → ⊥) qs × Others named qs
 others_cons s named [] h = (tt, tt)
 others_cons s named (q ∷ qs) h =
     let t = or_parts (eqb s q) (among named q) h.0 in
     let rest = others_cons s named qs h.1 in
     ((eqb-false s q t.0, rest.0), (t.1, rest.1))
 
-cons_others : (s : ℕ) (named qs : List ℕ) → All (λ q. s ≡ q → ⊥) qs → Others named qs → Others (s ∷ named) qs
+cons_others : (s : ℕ) (named qs : List ℕ) → AllByRecursion (λ q. s ≡ q → ⊥) qs → Others named qs → Others (s ∷ named) qs
 cons_others s named [] a o = tt
 cons_others s named (q ∷ qs) a o = (or_from (eqb s q) (among named q) (ne_eqb s q a.0) o.0, cons_others s named qs a.1 o.1)
 

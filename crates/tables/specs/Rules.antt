@@ -10,7 +10,7 @@
 --   ConditionKeeps, MoveKeeps   a record's own fields and its chains
 --   Keeps           the tables keep all rules
 use Rattle.std.specs.Prelude.{◌≡◌, ℕ, ◌^◌, ◌<◌, ◌≤◌, cond, ◌⊎◌, List, [], ◌∷◌, length, pos, ◌≤ℤ◌, ◌≢◌, unsigned_abs}
-use Rattle.std.specs.List.{AllByRecursion as All}
+use Rattle.std.specs.List.{AllByRecursion}
 use Rattle.tables.specs.Chains.{Visit, link, missing, visits, chain}
 use Rattle.tables.specs.Check.{names_quantity}
 use Rattle.tables.specs.Problem.{Problem}
@@ -55,10 +55,10 @@ quantities_of (l ∷ ls) = cond (names_quantity l.kind) (l.subject ∷ quantitie
 
 abbrev pub Once : List ℕ → Type 0
 Once [] = Unit {0}
-Once (x ∷ xs) = All (λ y. x ≢ y) xs × Once xs
+Once (x ∷ xs) = AllByRecursion (λ y. x ≢ y) xs × Once xs
 
 pub record ChainKeeps (p : Problem) (r : Role) (n : ℕ) : Type 0 where
-  pub met : All (VisitKeeps p r) (visits p.links n)
+  pub met : AllByRecursion (VisitKeeps p r) (visits p.links n)
   pub once : Once (quantities_of (chain p.links n))
 
 pub record ConditionKeeps (p : Problem) (c : Condition) : Type 0 where
@@ -79,7 +79,7 @@ pub record Keeps (p : Problem) : Type 0 where
   pub few_moves : length p.moves ≤ 256
   pub few_links : length p.links ≤ 4096
   pub start : p.head.start < 2 ^ p.head.facts
-  pub quantities : All QuantityKeeps p.quantities
-  pub conditions : All (ConditionKeeps p) p.conditions
-  pub moves : All (MoveKeeps p) p.moves
+  pub quantities : AllByRecursion QuantityKeeps p.quantities
+  pub conditions : AllByRecursion (ConditionKeeps p) p.conditions
+  pub moves : AllByRecursion (MoveKeeps p) p.moves
   pub goal : ChainKeeps p Needs p.head.goal

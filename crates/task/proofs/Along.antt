@@ -5,7 +5,7 @@ use Rattle.std.proofs.ByRecursion.{All-get_or}
 use Rattle.std.proofs.lemmas.Bool.{cond_both, eqb-false, and_parts}
 use Rattle.std.proofs.lemmas.Int.{ints}
 use lib.Signed.{le_z}
-use Rattle.std.specs.List.{AllByRecursion as All}
+use Rattle.std.specs.List.{AllByRecursion}
 use Rattle.tables.specs.Chains.{Visit, link, missing, visits, links_of, chain}
 use Rattle.tables.specs.Problem.{Problem}
 use Rattle.tables.specs.Rules.{LinkFits, VisitKeeps, ChainKeeps, QuantityKeeps, ConditionKeeps, MoveKeeps, Keeps}
@@ -22,12 +22,12 @@ use Rattle.tables.specs.declared.Quantity.{Quantity}
 use Rattle.tables.specs.declared.Link.{Link}
 use Rattle.tables.specs.declared.Role.{Role}
 
-visits_lead : (p : Problem) (r : Role) (vs : List Visit) → All (VisitKeeps p r) vs → All Leads vs
+visits_lead : (p : Problem) (r : Role) (vs : List Visit) → AllByRecursion (VisitKeeps p r) vs → AllByRecursion Leads vs
 visits_lead p r [] h = tt
 visits_lead p r (link n l ∷ vs) h = (h.0.next, visits_lead p r vs h.1)
 visits_lead p r (missing n ∷ vs) h = absurd h.0
 
-visits_fit : (p : Problem) (r : Role) (vs : List Visit) → All (VisitKeeps p r) vs → All (LinkFits p r) (links_of vs)
+visits_fit : (p : Problem) (r : Role) (vs : List Visit) → AllByRecursion (VisitKeeps p r) vs → AllByRecursion (LinkFits p r) (links_of vs)
 unfolding links_of
 visits_fit p r [] h = tt
 visits_fit p r (link n l ∷ vs) h = ((n, h.0), visits_fit p r vs h.1)
@@ -37,21 +37,21 @@ pub keeps_walk : (p : Problem) (r : Role) (n : ℕ) → ChainKeeps p r n → Wal
 unfolding Walkable
 keeps_walk p r n k = visits_lead p r (visits p.links n) k.met
 
-pub keeps_fit : (p : Problem) (r : Role) (n : ℕ) → ChainKeeps p r n → All (LinkFits p r) (chain p.links n)
+pub keeps_fit : (p : Problem) (r : Role) (n : ℕ) → ChainKeeps p r n → AllByRecursion (LinkFits p r) (chain p.links n)
 keeps_fit p r n k = visits_fit p r (visits p.links n) k.met
 
 -- ---- a walk from link to link, at number n of the table ls
 
 pub record Going (p : Problem) (r : Role) (ls : List Link) (n : ℕ) : Type 0 where
   pub can : Walkable ls n
-  pub fits : All (LinkFits p r) (chain ls n)
+  pub fits : AllByRecursion (LinkFits p r) (chain ls n)
   pub short : steps_left ls n ≤ 4096
 
 pub going_start : (p : Problem) (r : Role) (first : ℕ) (ls : List Link) (n : ℕ) → Keeps p → ChainKeeps p r first → ls ≡ p.links → n ≡ first → Going p r ls n
 going_start p r first ls n t k l a =
     record {
       can = subst₂ Walkable (sym l) (sym a) (keeps_walk p r first k);
-      fits = subst₂ (λ ks m. All (LinkFits p r) (chain ks m)) (sym l) (sym a) (keeps_fit p r first k);
+      fits = subst₂ (λ ks m. AllByRecursion (LinkFits p r) (chain ks m)) (sym l) (sym a) (keeps_fit p r first k);
       short = subst (λ ks. steps_left ks n ≤ 4096) (sym l) few;
     }
   where
@@ -69,7 +69,7 @@ pub going_step : (p : Problem) (r : Role) (l : Link) (ls : List Link) (n : ℕ) 
 unfolding Stepped
 going_step p r l ls n ls' n' g s on =
     let first : chain ls n ≡ l ∷ chain ls' n' = s.1 ∙ ap (λ ks. l ∷ chain ks n') (sym s.0) in
-    let all = subst (All (LinkFits p r)) first g.fits in
+    let all = subst (AllByRecursion (LinkFits p r)) first g.fits in
     record { fits = all.0; first = first; rest = record { can = on.0; fits = all.1; short = omega (arith, g.short, on.2) }; fewer = on.2 }
 
 pub going_end : (ls : List Link) (n : ℕ) (ls' : List Link) (n' : ℕ) → Stepped ls n None ls' n' → chain ls n ≡ []

@@ -5,7 +5,7 @@ use lib.IntN.{+ℤ_idr}
 use Rattle.std.proofs.lemmas.Nat.{pow_below}
 use Rattle.std.proofs.lemmas.List.{get_or-set_same, get_or-set_other, length-set}
 use Rattle.std.proofs.lemmas.Bool.{eq-eqb, ne_eqb, eqb-true, cond-true, cond-false, cond_both, cases_eq, cases_Bool, and_from, and_parts}
-use Rattle.std.specs.List.{AllByRecursion as All}
+use Rattle.std.specs.List.{AllByRecursion}
 use Rattle.tables.specs.Check.{names_quantity, in_range}
 use Rattle.task.specs.Meaning.{names, change}
 use Rattle.tables.specs.Problem.{Problem}
@@ -40,7 +40,7 @@ folded_holds kind w (l ∷ ls) k =
     folded_holds kind (noted kind w l) ls k ∙ ap (λ b. b || names kind ls k) (noted_holds kind w l k) ∙ or_assoc (fact_holds w k) (eqb l.kind kind && eqb l.subject k) (names kind ls k)
 
 -- facts that the effects of an accepted task name are facts of the task
-pub folded_below : (p : Problem) (kind w : ℕ) (ls : List Link) → (kind ≡ 4) ⊎ (kind ≡ 5) → All (LinkFits p Effects) ls → w < 2 ^ p.head.facts → fold (noted kind) w ls < 2 ^ p.head.facts
+pub folded_below : (p : Problem) (kind w : ℕ) (ls : List Link) → (kind ≡ 4) ⊎ (kind ≡ 5) → AllByRecursion (LinkFits p Effects) ls → w < 2 ^ p.head.facts → fold (noted kind) w ls < 2 ^ p.head.facts
 folded_below p kind w [] k a h = h
 folded_below p kind w (l ∷ ls) k a h = folded_below p kind (noted kind w l) ls k a.1 (cond_both (eqb l.kind kind) (bit_or w (2 ^ l.subject)) w (λ n. n < 2 ^ p.head.facts) yes' (λ _. h))
   where
@@ -57,33 +57,33 @@ names_change : (p : Problem) (l : Link) → LinkFits p Effects l → names_quant
 names_change p l f = let k = f.1.kind in let n : l.kind ≡ 1 → ⊥ = λ e. omega arith in ap (λ b. b || eqb l.kind 6) (ne_eqb l.kind 1 n)
 
 -- a quantity that no link names has no change
-pub unnamed : (p : Problem) (ls : List Link) (q : ℕ) → All (LinkFits p Effects) ls → All (λ x. q ≡ x → ⊥) (quantities_of ls) → change ls q ≡ pos 0
+pub unnamed : (p : Problem) (ls : List Link) (q : ℕ) → AllByRecursion (LinkFits p Effects) ls → AllByRecursion (λ x. q ≡ x → ⊥) (quantities_of ls) → change ls q ≡ pos 0
 unfolding change quantities_of
 unnamed p [] q a o = refl
 unnamed p (l ∷ ls) q a o = go (eqb l.kind 6) (names_change p l a.0) (λ o'. unnamed p ls q a.1 o')
   where
-    go : (b : Bool) → names_quantity l.kind ≡ b → (All (λ x. q ≡ x → ⊥) (quantities_of ls) → change ls q ≡ pos 0) → cond (b && eqb l.subject q) (l.amount +ℤ change ls q) (change ls q) ≡ pos 0
+    go : (b : Bool) → names_quantity l.kind ≡ b → (AllByRecursion (λ x. q ≡ x → ⊥) (quantities_of ls) → change ls q ≡ pos 0) → cond (b && eqb l.subject q) (l.amount +ℤ change ls q) (change ls q) ≡ pos 0
     go true e ih =
-        let o' = subst (All (λ x. q ≡ x → ⊥)) (cond-true (names_quantity l.kind) _ _ e) o in
+        let o' = subst (AllByRecursion (λ x. q ≡ x → ⊥)) (cond-true (names_quantity l.kind) _ _ e) o in
         cond-false (eqb l.subject q) _ _ (ne_eqb _ _ (λ z. o'.0 (sym z))) ∙ ih o'.1
-    go false e ih = ih (subst (All (λ x. q ≡ x → ⊥)) (cond-false (names_quantity l.kind) _ _ e) o)
+    go false e ih = ih (subst (AllByRecursion (λ x. q ≡ x → ⊥)) (cond-false (names_quantity l.kind) _ _ e) o)
 
 -- a value stays at a quantity that no link names
-untouched : (p : Problem) (s : State) (vs : List ℤ) (ls : List Link) (q : ℕ) → All (LinkFits p Effects) ls → 1 ≤ q → All (λ x. q ≡ x → ⊥) (quantities_of ls) → get_or (fold (put s) vs ls) (q - 1) (pos 0) ≡ get_or vs (q - 1) (pos 0)
+untouched : (p : Problem) (s : State) (vs : List ℤ) (ls : List Link) (q : ℕ) → AllByRecursion (LinkFits p Effects) ls → 1 ≤ q → AllByRecursion (λ x. q ≡ x → ⊥) (quantities_of ls) → get_or (fold (put s) vs ls) (q - 1) (pos 0) ≡ get_or vs (q - 1) (pos 0)
 unfolding quantities_of
 untouched p s vs [] q a h o = refl
 untouched p s vs (l ∷ ls) q a h o = go (eqb l.kind 6) (names_change p l a.0) refl (λ vs' o'. untouched p s vs' ls q a.1 h o')
   where
-    go : (b : Bool) → names_quantity l.kind ≡ b → eqb l.kind 6 ≡ b → ((vs' : List ℤ) → All (λ x. q ≡ x → ⊥) (quantities_of ls) → get_or (fold (put s) vs' ls) (q - 1) (pos 0) ≡ get_or vs' (q - 1) (pos 0))
+    go : (b : Bool) → names_quantity l.kind ≡ b → eqb l.kind 6 ≡ b → ((vs' : List ℤ) → AllByRecursion (λ x. q ≡ x → ⊥) (quantities_of ls) → get_or (fold (put s) vs' ls) (q - 1) (pos 0) ≡ get_or vs' (q - 1) (pos 0))
         → get_or (fold (put s) (cond b (set vs (l.subject - 1) (changed s l)) vs) ls) (q - 1) (pos 0) ≡ get_or vs (q - 1) (pos 0)
     go true e k ih =
-        let o' = subst (All (λ x. q ≡ x → ⊥)) (cond-true (names_quantity l.kind) _ _ e) o in
+        let o' = subst (AllByRecursion (λ x. q ≡ x → ⊥)) (cond-true (names_quantity l.kind) _ _ e) o in
         let one = (a.0.1.quantity (inr (eqb-true _ _ k))).0 in
         ih (set vs (l.subject - 1) (changed s l)) o'.1 ∙ get_or-set_other vs (l.subject - 1) (q - 1) (changed s l) (pos 0) (λ z. o'.0 (omega arith))
-    go false e k ih = ih vs (subst (All (λ x. q ≡ x → ⊥)) (cond-false (names_quantity l.kind) _ _ e) o)
+    go false e k ih = ih vs (subst (AllByRecursion (λ x. q ≡ x → ⊥)) (cond-false (names_quantity l.kind) _ _ e) o)
 
 -- where the values begin with the state's own, the effects add their change
-pub adds_change : (p : Problem) (s : State) (vs : List ℤ) (ls : List Link) (q : ℕ) → All (LinkFits p Effects) ls → Once (quantities_of ls) → length vs ≡ 16 → 1 ≤ q → q ≤ 16 → get_or vs (q - 1) (pos 0) ≡ value_of s q
+pub adds_change : (p : Problem) (s : State) (vs : List ℤ) (ls : List Link) (q : ℕ) → AllByRecursion (LinkFits p Effects) ls → Once (quantities_of ls) → length vs ≡ 16 → 1 ≤ q → q ≤ 16 → get_or vs (q - 1) (pos 0) ≡ value_of s q
     → get_or (fold (put s) vs ls) (q - 1) (pos 0) ≡ value_of s q +ℤ change ls q
 unfolding change quantities_of
 adds_change p s vs [] q a o len h k e = e ∙ sym (+ℤ_idr (value_of s q))
@@ -97,7 +97,7 @@ adds_change p s vs (l ∷ ls) q a o len h k e = go (eqb l.kind 6) (names_change 
 
     hit : Once (l.subject ∷ quantities_of ls) → l.subject ≡ q → Goal true
     hit o' same =
-        let rest : All (λ x. q ≡ x → ⊥) (quantities_of ls) = subst (λ n. All (λ x. n ≡ x → ⊥) (quantities_of ls)) same o'.0 in
+        let rest : AllByRecursion (λ x. q ≡ x → ⊥) (quantities_of ls) = subst (λ n. AllByRecursion (λ x. n ≡ x → ⊥) (quantities_of ls)) same o'.0 in
         let lt : q - 1 < length vs = omega arith in
         let at : l.subject - 1 ≡ q - 1 = ap (λ n. n - 1) same in
         untouched p s (set vs (l.subject - 1) (changed s l)) ls q a.1 h rest
@@ -121,12 +121,12 @@ adds_change p s vs (l ∷ ls) q a o len h k e = go (eqb l.kind 6) (names_change 
 -- ---- ranges
 
 -- quantities past the table are named by no link
-pub past_named : (p : Problem) (ls : List Link) (q : ℕ) → All (LinkFits p Effects) ls → length p.quantities < q → All (λ x. q ≡ x → ⊥) (quantities_of ls)
+pub past_named : (p : Problem) (ls : List Link) (q : ℕ) → AllByRecursion (LinkFits p Effects) ls → length p.quantities < q → AllByRecursion (λ x. q ≡ x → ⊥) (quantities_of ls)
 unfolding quantities_of
 past_named p [] q a h = tt
 past_named p (l ∷ ls) q a h = go (names_quantity l.kind) (names_change p l a.0) (past_named p ls q a.1 h)
   where
-    go : (b : Bool) → b ≡ eqb l.kind 6 → All (λ x. q ≡ x → ⊥) (quantities_of ls) → All (λ x. q ≡ x → ⊥) (cond b (l.subject ∷ quantities_of ls) (quantities_of ls))
+    go : (b : Bool) → b ≡ eqb l.kind 6 → AllByRecursion (λ x. q ≡ x → ⊥) (quantities_of ls) → AllByRecursion (λ x. q ≡ x → ⊥) (cond b (l.subject ∷ quantities_of ls) (quantities_of ls))
     go true e ih = ((λ z. let b = (a.0.1.quantity (inr (eqb-true _ _ (sym e)))).1 in omega arith), ih)
     go false e ih = ih
 
@@ -140,7 +140,7 @@ module _ (p : Problem) (s : State) (base : (q : ℕ) → 1 ≤ q → q ≤ lengt
   Ranged ls q = in_range (quantity_at p q) (value_of s q +ℤ change ls q) ≡ true
 
   -- a link that changes a quantity which the rest does not name
-  change_here : (l : Link) (ls : List Link) → All (LinkFits p Effects) (l ∷ ls) → Once (quantities_of (l ∷ ls)) → eqb l.kind 6 ≡ true → value_of s l.subject +ℤ change (l ∷ ls) l.subject ≡ changed s l
+  change_here : (l : Link) (ls : List Link) → AllByRecursion (LinkFits p Effects) (l ∷ ls) → Once (quantities_of (l ∷ ls)) → eqb l.kind 6 ≡ true → value_of s l.subject +ℤ change (l ∷ ls) l.subject ≡ changed s l
   unfolding change quantities_of
   change_here l ls a o k =
       let o' = subst Once (cond-true (names_quantity l.kind) _ _ (names_change p l a.0 ∙ k)) o in
@@ -159,7 +159,7 @@ module _ (p : Problem) (s : State) (base : (q : ℕ) → 1 ≤ q → q ≤ lengt
       go true o = o.1
       go false o = o
 
-  pub stays_ranged : (ls : List Link) (q : ℕ) → All (LinkFits p Effects) ls → Once (quantities_of ls) → 1 ≤ q → q ≤ length p.quantities → stays p s ls ≡ true → Ranged ls q
+  pub stays_ranged : (ls : List Link) (q : ℕ) → AllByRecursion (LinkFits p Effects) ls → Once (quantities_of ls) → 1 ≤ q → q ≤ length p.quantities → stays p s ls ≡ true → Ranged ls q
   unfolding change
   stays_ranged [] q a o h k st = ap (in_range (quantity_at p q)) (+ℤ_idr (value_of s q)) ∙ base q h k
   stays_ranged (l ∷ ls) q a o h k st =
@@ -170,7 +170,7 @@ module _ (p : Problem) (s : State) (base : (q : ℕ) → 1 ≤ q → q ≤ lengt
       (λ e. ap (λ z. in_range (quantity_at p q) (value_of s q +ℤ z)) (change_else l ls q e) ∙ stays_ranged ls q a.1 (once_rest l ls o) h k parts.1)
       (cases_Bool (eqb l.kind 6 && eqb l.subject q))
 
-  pub ranged_stays : (ls : List Link) → All (LinkFits p Effects) ls → Once (quantities_of ls) → ((q : ℕ) → 1 ≤ q → q ≤ length p.quantities → Ranged ls q) → stays p s ls ≡ true
+  pub ranged_stays : (ls : List Link) → AllByRecursion (LinkFits p Effects) ls → Once (quantities_of ls) → ((q : ℕ) → 1 ≤ q → q ≤ length p.quantities → Ranged ls q) → stays p s ls ≡ true
   ranged_stays [] a o r = refl
   ranged_stays (l ∷ ls) a o r = and_from _ _ (cond_both (eqb l.kind 6) _ true (λ b. b ≡ true) here (λ _. refl)) (ranged_stays ls a.1 (once_rest l ls o) rest)
     where
@@ -181,7 +181,7 @@ module _ (p : Problem) (s : State) (base : (q : ℕ) → 1 ≤ q → q ≤ lengt
       rest q h k = ⊎_elim
           (λ e. let both = and_parts _ _ e in let same = eqb-true _ _ both.1 in
           let o' = subst Once (named_first l ls (names_change p l a.0 ∙ both.0)) o in
-          let none = unnamed p ls q a.1 (subst (λ n. All (λ x. n ≡ x → ⊥) (quantities_of ls)) same o'.0) in
+          let none = unnamed p ls q a.1 (subst (λ n. AllByRecursion (λ x. n ≡ x → ⊥) (quantities_of ls)) same o'.0) in
           ap (in_range (quantity_at p q)) (ap (λ z. value_of s q +ℤ z) none ∙ +ℤ_idr (value_of s q)) ∙ base q h k)
           (λ e. ap (λ z. in_range (quantity_at p q) (value_of s q +ℤ z)) (sym (change_else l ls q e)) ∙ r q h k)
           (cases_Bool (eqb l.kind 6 && eqb l.subject q))

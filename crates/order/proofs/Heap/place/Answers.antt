@@ -1,6 +1,6 @@
 use Rattle.std.proofs.Common.{◌≡◌, false, take, subst, arith}
 use Rattle.std.specs.Ordering.{is_eq}
-use Rattle.std.specs.List.{AllByRecursion as All}
+use Rattle.std.specs.List.{AllByRecursion}
 use Rattle.std.proofs.ByRecursion.{All-more}
 use Rattle.order.proofs.Heap.place.Goals as goal
 
@@ -13,4 +13,4 @@ loop-i-preserved g c = λ o.
 pub returns : goal.returns
 returns g c = λ o.
     let all : c.loop-i.i ≡ c.args.self.now.len = omega arith in
-    subst (λ n. All (λ z. is_eq (g.T.Ord.cmp z c.args.x) ≡ false) (take n c.args.self.now.entries.now)) all (c.loop-i.invariant o)
+    subst (λ n. AllByRecursion (λ z. is_eq (g.T.Ord.cmp z c.args.x) ≡ false) (take n c.args.self.now.entries.now)) all (c.loop-i.invariant o)
