@@ -1,4 +1,8 @@
--- A plan from a state where the goal fails is not empty, so it pays at least for the cheapest move.
+-- What `Floor` answers is sound: a plan from a state where the goal fails is not empty, so it pays at least for the cheapest move.
+--   lower            the lower of a cost and a move's
+--   cheapest_least   no move costs less than the cheapest
+--   first_move       a plan from where the goal fails begins with a move of the table, and costs at least as much
+--   floor_sound, floor_plain   the answer is sound at every state, and 'at least 0' at a record that is no state
 use Rattle.std.specs.Prelude.{◌≡◌, ℕ, zero, suc, ◌+◌, ◌-◌, ◌<◌, ◌≤◌, min, true, false, List, [], ◌∷◌, length, Some, None, fold, Option, ◌==◌, nat_le, slice_index_or, unsigned_abs, refl}
 use Rattle.std.proofs.Common.{sym, ◌∙◌, ap, subst, arith}
 use Rattle.std.proofs.lemmas.Bool.{true≢false, and_parts, leb-true, eqb-true, cond-true, cond-false, cond_both}

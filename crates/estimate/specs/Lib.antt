@@ -1,3 +1,4 @@
 pub mod Estimates
 pub mod Answers
 pub mod Cheapest
+pub mod Simple

@@ -2,8 +2,8 @@
 ghost use Rattle.std.specs.Prelude.{◌≡◌};
 ghost use Rattle.estimate.specs.Answers.{zero_answer, floor_answer, cheapest};
 ghost use Rattle.estimate.specs.Estimates.{larger};
-ghost use Rattle.std.proofs.Common.{rules};
 ghost use Rattle.estimate.specs.Cheapest.{floor_sound, floor_plain};
+ghost use Rattle.estimate.specs.Simple.{zero_sound, zero_plain, larger_sound, larger_plain};
 
 use crate::estimate::Estimate;
 use crate::estimator::Estimator;
@@ -29,9 +29,9 @@ pub struct LargerOf<A, B> {
 impl Estimator for Zero {
     ghost answer = { λ _. zero_answer };
 
-    ghost sound = { Prim.search rules };
+    ghost sound = { λ e p s a i. zero_sound p s };
 
-    ghost plain = { Prim.search rules };
+    ghost plain = { λ e p s i. zero_plain p s };
 
     fn ask(&self, _task: &Task, _state: &State) -> Estimate {
         Estimate::AtLeast(0)
@@ -71,9 +71,9 @@ fn least_cost(moves: &[Move]) -> u64
 impl<A: Estimator, B: Estimator> Estimator for LargerOf<A, B> {
     ghost answer = { λ e p s. larger (A.Estimator.answer e.first p s) (B.Estimator.answer e.second p s) };
 
-    ghost sound = { Prim.search rules };
+    ghost sound = { λ e p s a i. larger_sound p s (A.answer e.first p s) (B.answer e.second p s) (A.sound e.first p s a i) (B.sound e.second p s a i) };
 
-    ghost plain = { Prim.search rules };
+    ghost plain = { λ e p s i. larger_plain (A.answer e.first p s) (B.answer e.second p s) (A.plain e.first p s i) (B.plain e.second p s i) };
 
     fn ask(&self, task: &Task, state: &State) -> Estimate {
         match (self.first.ask(task, state), self.second.ask(task, state)) {

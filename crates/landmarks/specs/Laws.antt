@@ -1,6 +1,6 @@
 -- The laws of LM-cut's rounds.
 --   In               an element is in a list
---   _≼_, _≺_         a value is at most, is below another; infinite is above every number
+--   ◌≼◌, ◌≺◌         a value is at most, is below another; infinite is above every number
 --   ReachFits        a reach is of a node that does not hold, tells its shortfall, and its gain is at least 1
 --   WellFormed       a relaxed task as one of a problem and a state is, where the shortfall of each node is given
 --   RelaxedFits      the relaxed task of an accepted problem and any record is well formed

@@ -1,4 +1,11 @@
 -- What LM-cut answers, from what its rounds add up to.
+--   Ended                     an outcome with the total of a tally, and as many records as it counts
+--   ended_some, ended_none    the outcome of a tally that there is, and of none
+--   tally_count               1 where there is a tally, else 0
+--   none_estimate, none_grounds      the answer and the records at a record that is no state
+--   estimate_is, grounds_are         the same at a state, from the outcome of the rounds
+--   recorded_all, recorded_short     what the call for the records answers where they fit, and where not
+--   buffer_all, buffer_none, buffer_short   what the buffer holds then
 use Rattle.std.specs.Prelude.{◌≡◌, ℕ, ◌<◌, ◌≤◌, true, false, cond, List, [], ◌++◌, length, drop, Some, None, Ok, Err, Option, nat_le, refl}
 use Rattle.std.proofs.Math.Path.{sym, ap}
 use Rattle.std.proofs.Common.{◌∙◌, arith}

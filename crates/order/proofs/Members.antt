@@ -1,5 +1,5 @@
 -- For callers: which entries are held after a call, from what its contract says of them.
--- `countBy p` is a `sumBy`, so each lemma on sums counts too.
+-- `count_by p` is a `sum_by`, so each lemma on sums counts too.
 use Rattle.std.proofs.Common.{◌≡◌, ℕ, zero, suc, ◌+◌, ◌-◌, ◌<◌, ◌≤◌, Bool, true, false, ◌⊎◌, List, ◌∷◌, length, get_or, take, drop, IfSome, Some, None, Ok, Err, MatchBool, sum_by, Option, Result, Ordering, Equal, sym, refl, ap, ◌∙◌, subst, inl, inr, ⊎_elim, arith, length-take, MatchOption, MatchResult}
 use Rattle.std.specs.Cmp.{IsTotalOrder}
 use Rattle.std.specs.List.{ContainsAt as Has, AllByRecursion}

@@ -1,6 +1,6 @@
 -- The table check: the first fault met, in the order in which faults are told.
 --   told              the check's answer: a fault, or none
---   _or_              the first of two faults that is there
+--   ◌or◌              the first of two faults that is there
 --   unless            a fault, unless a test passes
 --   within            a whole number's size is at most a limit
 --   in_range          a value is in a quantity's range

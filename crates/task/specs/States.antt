@@ -1,7 +1,7 @@
 -- States and moves: what holds in a state, when a move is allowed, and its result.
 --   fact_holds        bit k of a word of facts is set
 --   value_of          the value of quantity q
---   condition_at, move_at, quantity_at   the record with a number (no-quantity where there is none)
+--   condition_at, move_at, quantity_at   the record with a number (no_quantity where there is none)
 --   add_term, total   the sum of weight × value over terms
 --   mark              the least sum at which a condition holds: its bound, or one more for 'more than'
 --   gap               how far the sum of a condition is below its mark
@@ -14,7 +14,7 @@
 --   stays             every quantity that a link of the effects changes is in its range then
 --   noted             a word with the fact of a link added, where the link is of a kind
 --   cleared, made     the words of the facts that effects clear and set
---   put, values-after the values with all changes, each worked out from the state before; an accepted chain names a
+--   put, values_after the values with all changes, each worked out from the state before; an accepted chain names a
 --                     quantity at most once, so that no change undoes another
 --   moved             the result of a move's effects: clears, then sets, and all changes at once
 --   after_effects     that result, where every quantity that the effects change stays in its range

@@ -1,4 +1,4 @@
--- told-estimate   the answer to a question to an estimator
+-- told_estimate   the answer to a question to an estimator
 use Rattle.estimate.specs.declared.estimate.Estimate.{Estimate}
 use Rattle.estimate.specs.declared.estimate.Estimate.TheVariants as estimate
 use Rattle.vectors.specs.declared.answer.Answer.{Answer}

@@ -1,9 +1,9 @@
 // The estimate layer: the directive `est` asks an estimator about a record.
-ghost use Rattle.std.specs.Prelude.{◌≡◌, refl};
+ghost use Rattle.std.specs.Prelude.{◌≡◌};
 ghost use Rattle.task.specs.Tasks.{problem};
 ghost use Rattle.vectors.specs.Asked.{basic_answer, asked_answer};
-ghost use Rattle.std.proofs.Common.{arith};
 ghost use Rattle.estimate.specs.Cheapest.{floor_sound, floor_plain};
+ghost use Rattle.estimate.specs.Simple.{zero_sound, zero_plain};
 ghost use Rattle.vectors.specs.declared.estimates.Basic.TheVariants.{Zero, Floor};
 
 use crate::directive::*;
@@ -32,11 +32,11 @@ impl Estimator for Basic {
     ghost answer = { basic_answer };
 
     ghost sound = { elim [
-      | Zero ↦ λ p s a e. (omega arith, λ _ _. omega arith)
+      | Zero ↦ λ p s a e. zero_sound p s
       | Floor ↦ λ p s a e. floor_sound p s e
     ] };
 
-    ghost plain = { elim [ Zero ↦ λ p s e. refl | Floor ↦ λ p s e. floor_plain p s e ] };
+    ghost plain = { elim [ Zero ↦ λ p s e. zero_plain p s | Floor ↦ λ p s e. floor_plain p s e ] };
 
     fn ask(&self, task: &Task, state: &State) -> Estimate {
         match self {

@@ -1,6 +1,6 @@
 -- What a block is answered.
 --   told_plan   the answer to a plan check
---   told-grounds the answer to a question for landmark records
+--   told_grounds the answer to a question for landmark records
 --   waiting     the answer to a directive that comes before any `accept`
 --   served      the answer to a directive on an accepted task
 --   after_check the answers from the first `accept` on: of every directive, or of it alone where the tables are refused

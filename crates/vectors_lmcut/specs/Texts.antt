@@ -1,7 +1,7 @@
 -- The lines of the output.
 --   task_fault_text   why tables are refused
 --   plan_fault_text   why a list of moves is refused
---   search-fault-text why landmark records are refused
+--   search_fault_text why landmark records are refused
 --   ground_text       a landmark record
 --   grounds_text      how many landmark records there are, then each of them
 --   text              the line that an answer is written as
