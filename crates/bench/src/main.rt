@@ -2,12 +2,13 @@
 // add up to. With a word as argument it also prints the time of a question, in nanoseconds.
 #![tactic(auto)]
 
-mod samples;
+mod largest;
 
-use crate::samples::*;
+use crate::largest::*;
 use estimate::estimate::Estimate;
 use estimate::estimator::Estimator;
-use lmcut_words::estimator::*;
+use lmcut::estimator::*;
+use samples::pads::PADS;
 use std::env;
 use std::time::Instant;
 use tables::*;
@@ -35,14 +36,13 @@ fn asked(task: &Task, moves: u32) -> u64 {
 
 // Runs one task, and prints its sum and, where it is wanted, the time of a question.
 fn run(rt: &HostRuntime, name: &str, tables: Tables, timed: bool) -> anyhow::Result<()> {
-    match tables.check() {
+    match Task::try_from(tables) {
         Err(fault) => {
             let number = fault.number();
             println!(rt; "{name}: tables refused, rule {number}")?;
         }
-        Ok(()) => {
+        Ok(task) => {
             let moves = tables.moves.len() as u32;
-            let task = Task::new(tables);
             let start = Instant::now(rt)?;
             let sum = asked(&task, moves);
             let spent = start.elapsed(rt)?;
@@ -58,30 +58,13 @@ fn run(rt: &HostRuntime, name: &str, tables: Tables, timed: bool) -> anyhow::Res
 
 // Runs both tasks. Any argument asks for times.
 fn all(rt: &HostRuntime) -> anyhow::Result<()> {
-    let mut words = env::args(rt)?;
-    let _ = words.next();
-    let timed = words.next().is_some();
-    let small = Tables {
-        head: Head {
-            facts: 0,
-            start: 0,
-            goal: 1,
-        },
-        quantities: &FEW,
-        conditions: &ENOUGH,
-        moves: &TWO,
-        links: &FOUR,
-    };
-    run(rt, "small", small, timed)?;
+    let timed = env::args(rt)?.nth(1).is_some();
+    run(rt, "small", PADS, timed)?;
     let conditions = conditions();
     let moves = moves();
     let links = links();
     let large = Tables {
-        head: Head {
-            facts: 64,
-            start: 1,
-            goal: 1153,
-        },
+        head: HEAD,
         quantities: &SIXTEEN,
         conditions: &conditions,
         moves: &moves,

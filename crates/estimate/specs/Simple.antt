@@ -1,14 +1,13 @@
 -- What the simplest estimators answer is sound, and is 'at least 0' at a record that is no state.
 --   zero_sound, zero_plain       of `Zero`
 --   larger_sound, larger_plain   of the larger of two answers, where each is
-use Rattle.std.specs.Prelude.{◌≡◌, ℕ, ◌≤◌, false, max, refl}
-use Rattle.std.proofs.Common.{ap, ap₂, ◌∙◌, arith}
+use Rattle.std.specs.Prelude.{◌≡◌, refl}
+use Rattle.std.proofs.Common.{ap₂, arith}
 use Rattle.estimate.specs.Answers.{zero_answer}
 use Rattle.estimate.specs.Estimates.{Claims, larger}
 use Rattle.estimate.specs.declared.estimate.Estimate.{Estimate}
 use Rattle.estimate.specs.declared.estimate.Estimate.TheVariants.{AtLeast, Dead}
 use Rattle.tables.specs.Problem.{Problem}
-use Rattle.task.specs.States.{is_state}
 use Rattle.task.specs.declared.state.State.{State}
 
 pub zero_sound : (p : Problem) (s : State) → Claims p s (zero_answer p s)

@@ -45,6 +45,7 @@ impl Estimator for Floor {
 
     ghost plain = { λ e p s. floor_plain p s };
 
+    #[tactic(auto, unfolding(crate::specs::Answers::floor_answer))]
     fn ask(&self, task: &Task, state: &State) -> Estimate {
         if !task.is_state(state) || task.goal_holds(state) {
             return Estimate::AtLeast(0);
@@ -61,11 +62,8 @@ impl Estimator for Floor {
 fn least_cost(moves: &[Move]) -> u64
     ensures { result ≡ cheapest moves.now }
 {
-    let mut least: u32 = 10_000;
-    for action in moves {
-        least = least.min(action.cost.unsigned_abs());
-    }
-    u64::from(least)
+    let lower = |least: u32, action: &Move| least.min(action.cost.unsigned_abs());
+    u64::from(moves.iter().fold(10_000, lower))
 }
 
 impl<A: Estimator, B: Estimator> Estimator for LargerOf<A, B> {
@@ -76,9 +74,8 @@ impl<A: Estimator, B: Estimator> Estimator for LargerOf<A, B> {
     ghost plain = { λ e p s i. larger_plain (A.answer e.first p s) (B.answer e.second p s) (A.plain e.first p s i) (B.plain e.second p s i) };
 
     fn ask(&self, task: &Task, state: &State) -> Estimate {
-        match (self.first.ask(task, state), self.second.ask(task, state)) {
-            (Estimate::AtLeast(a), Estimate::AtLeast(b)) => Estimate::AtLeast(a.max(b)),
-            _ => Estimate::Dead,
-        }
+        let first = self.first.ask(task, state);
+        let second = self.second.ask(task, state);
+        first.max(second)
     }
 }

@@ -2,7 +2,7 @@
 use Rattle.std.proofs.Common.{◌≡◌, ℕ, zero, suc, ◌+◌, ◌-◌, ◌*◌, ◌<◌, ◌≤◌, Bool, true, false, cond, not, ◌&&◌, ◌||◌, eqb, leb, List, [], ◌∷◌, ◌++◌, map, length, get_or, nat_abs, Some, None, sym, refl, ap, ◌∙◌, subst, inl, ⊎_elim, add-mul, one-mul, arith}
 use Rattle.std.proofs.lemmas.Nat.{le-div, mul-le}
 use Rattle.std.proofs.lemmas.List.{length-append, length-map}
-use Rattle.std.proofs.lemmas.Bool.{cases_Bool, cases_lt, or_parts, eqb-false, false≢true}
+use Rattle.std.proofs.lemmas.Bool.{cases_Bool, or_parts, eqb-false, false≢true}
 use Rattle.tables.specs.Chains.{chain}
 use Rattle.task.specs.Meaning.{names}
 use Rattle.tables.specs.Problem.{Problem}
@@ -168,7 +168,7 @@ module _ (rx : Relaxed) (shorts : ℕ → ℕ) (fit : WellFormed rx shorts)
       let rr = r.round in
       let cs = cut_small rx shorts fit light rs small in
       let ne : r.place ≡ h → ⊥ = λ e. (let z : get_or rs r.place 0 ≡ 0 = ap (λ j. get_or rs j 0) e ∙ idle in omega arith) in
-      let lt : r.place < h = ⊎_elim (λ l. l) (λ l. absurd (ne (omega arith))) (cases_lt r.place h) in
+      let lt : r.place < h = omega arith in
       record { from = omega arith; upto = omega arith; first = omega arith; last = omega arith; weighs = omega arith; light = omega arith; pays = omega arith; cheap = omega arith }
 
   rounds_tidy : (fuel k total : ℕ) (rs : List ℕ) → ((i : ℕ) → get_or rs i 0 ≤ most_left) → get_or rs h 0 ≡ 0 → AllTidy k fuel (rounds rx fuel k total rs)

@@ -1,12 +1,13 @@
 -- The cut of a round: it is not empty, its edges weigh something, and no charge exceeds what is left of a cost.
 use Rattle.std.proofs.Common.{◌≡◌, ℕ, zero, suc, ◌+◌, ◌-◌, ◌*◌, ◌/◌, ◌<◌, ◌≤◌, Bool, true, false, cond, not, ◌&&◌, ltb, List, [], ◌∷◌, Some, None, filter, Option, sym, refl, ap, ◌∙◌, subst, ap₂, inl, inr, ⊎_elim, mul_comm, div-mul-le_self, arith}
+use Rattle.std.proofs.lemmas.Option.{same_Some, none-some}
 use native.Mathlib.Nat.{lt-mul-div-succ}
 use Rattle.std.proofs.lemmas.Nat.{div_below, mul-le}
 use Rattle.std.proofs.lemmas.Bool.{cases_lt, cases_eq, cases_Bool, and_parts, or_cases, or_parts, not-true, cond-true, cond-false, false≢true}
 use Rattle.landmarks.specs.Relaxed.{Reach, Action, Relaxed, goal}
 use Rattle.landmarks.specs.Rounds.{ceil_div, weight, Value, smaller, larger, plus, above, Loaded, loaded, value_at, largest, best, values, beats, picked, chosen, Edges, edges_of, graph, in_zone, goal_zone, leads_in, starts, start_zone, Crossing, into, crossing, crossings, cut, lightest, lightest_of, or_zero, cut_weight, charge, charge_of}
 use Rattle.landmarks.specs.Laws.{In, ◌≼◌, Settles, ReachFits, WellFormed}
-use Rattle.landmarks.proofs.Orders.{in_map, map_in, some_same, some_none, ≼_refl, ≼_eq, ≼_trans, zero_≼, below_some, smaller_left, smaller_right, smaller_is, larger_least, plus_zero, plus_some, above_true, above_false}
+use Rattle.landmarks.proofs.Orders.{in_map, map_in, ≼_refl, ≼_eq, ≼_trans, zero_≼, below_some, smaller_left, smaller_right, smaller_is, larger_least, plus_zero, plus_some, above_true, above_false}
 use Rattle.landmarks.proofs.Sweeps.{largest_high, Offered, best_is, S, S-open, S-past, first_at, values_settle}
 use Rattle.landmarks.proofs.Zones.{weightless_tells, weightless_from, leads_tells, leads_from, goal_in, goal_zone_keeps, goal_zone_closed, held_in, start_apart, start_closed}
 
@@ -18,8 +19,8 @@ chosen_ground vs [] e = refl
 chosen_ground vs (n ∷ ns) e = absurd (go (chosen vs ns) e)
   where
     go : (o : Option ℕ) → picked vs n o ≡ None → ⊥
-    go None e = some_none n e
-    go (Some m) e = some_none (cond (beats vs n m) n m) e
+    go None e = none-some n (sym e)
+    go (Some m) e = none-some (cond (beats vs n m) n m) (sym e)
 
 pub no_needs : (vs : List Value) (ns : List ℕ) → ns ≡ [] → largest vs ns ≡ Some 0
 unfolding largest
@@ -27,12 +28,12 @@ no_needs vs ns e = ap (largest vs) e
 
 pub chosen_in : (vs : List Value) (ns : List ℕ) (i : ℕ) → chosen vs ns ≡ Some i → In i ns
 unfolding chosen
-chosen_in vs [] i e = absurd (some_none i (sym e))
+chosen_in vs [] i e = absurd (none-some i e)
 chosen_in vs (n ∷ ns) i e = go (chosen vs ns) (λ m q. chosen_in vs ns m q) refl e
   where
     go : (o : Option ℕ) → ((m : ℕ) → chosen vs ns ≡ Some m → In m ns) → chosen vs ns ≡ o → picked vs n o ≡ Some i → In i (n ∷ ns)
-    go None ih q e = inl (some_same n i e)
-    go (Some m) ih q e = pick (beats vs n m) (some_same (cond (beats vs n m) n m) i e)
+    go None ih q e = inl (same_Some n i e)
+    go (Some m) ih q e = pick (beats vs n m) (same_Some (cond (beats vs n m) n m) i e)
       where
         pick : (b : Bool) → cond b n m ≡ i → In i (n ∷ ns)
         pick true z = inl z
@@ -40,7 +41,7 @@ chosen_in vs (n ∷ ns) i e = go (chosen vs ns) (λ m q. chosen_in vs ns m q) re
 
 pub chosen_high : (vs : List Value) (ns : List ℕ) (i : ℕ) → chosen vs ns ≡ Some i → largest vs ns ≼ value_at vs i
 unfolding chosen largest
-chosen_high vs [] i e = absurd (some_none i (sym e))
+chosen_high vs [] i e = absurd (none-some i e)
 chosen_high vs (n ∷ ns) i e = go (chosen vs ns) (λ m q. chosen_high vs ns m q) refl e
   where
     High : ℕ → Type 0
@@ -49,8 +50,8 @@ chosen_high vs (n ∷ ns) i e = go (chosen vs ns) (λ m q. chosen_high vs ns m q
     go : (o : Option ℕ) → ((m : ℕ) → chosen vs ns ≡ Some m → largest vs ns ≼ value_at vs m) → chosen vs ns ≡ o → picked vs n o ≡ Some i → larger (value_at vs n) (largest vs ns) ≼ value_at vs i
     go None ih q e =
         let z : largest vs ns ≡ Some 0 = ap (largest vs) (chosen_ground vs ns q) in
-        subst High (some_same n i e) (larger_least (value_at vs n) (largest vs ns) (value_at vs n) (≼_refl (value_at vs n)) (subst (λ y. y ≼ value_at vs n) (sym z) (zero_≼ (value_at vs n))))
-    go (Some m) ih q e = pick (beats vs n m) refl (some_same (cond (beats vs n m) n m) i e)
+        subst High (same_Some n i e) (larger_least (value_at vs n) (largest vs ns) (value_at vs n) (≼_refl (value_at vs n)) (subst (λ y. y ≼ value_at vs n) (sym z) (zero_≼ (value_at vs n))))
+    go (Some m) ih q e = pick (beats vs n m) refl (same_Some (cond (beats vs n m) n m) i e)
       where
         pick : (b : Bool) → beats vs n m ≡ b → cond b n m ≡ i → larger (value_at vs n) (largest vs ns) ≼ value_at vs i
         pick true t z =
@@ -143,9 +144,9 @@ lightest_low (d ∷ ds) c x i j =
 
 edge_lightest : (r : ℕ) (xs : List Reach) (b : ℕ) → lightest r xs ≡ Some b → (x : Reach) × In x xs × (weight r x ≡ b)
 unfolding lightest
-edge_lightest r [] b e = absurd (some_none b (sym e))
+edge_lightest r [] b e = absurd (none-some b e)
 edge_lightest r (x ∷ xs) b e = ⊎_elim
-    (λ s. (x, inl refl, some_same (weight r x) b (sym s ∙ e)))
+    (λ s. (x, inl refl, same_Some (weight r x) b (sym s ∙ e)))
     (λ s. let t = edge_lightest r xs b (sym s ∙ e) in (t.0, inr t.1, t.2))
     (smaller_is (Some (weight r x)) (lightest r xs))
 
@@ -158,7 +159,7 @@ pub record Lightest (cs : List Crossing) (b : ℕ) : Type 0 where
 
 pub lightest_is : (cs : List Crossing) (b : ℕ) → lightest_of cs ≡ Some b → Lightest cs b
 unfolding lightest_of
-lightest_is [] b e = absurd (some_none b (sym e))
+lightest_is [] b e = absurd (none-some b e)
 lightest_is (c ∷ cs) b e = ⊎_elim
     (λ s. let t = edge_lightest c.left c.edges b (sym s ∙ e) in record { by = c; among = inl refl; edge = t.0; crosses = t.1; exact = t.2 })
     (λ s. let t = lightest_is cs b (sym s ∙ e) in record { by = t.by; among = inr t.among; edge = t.edge; crosses = t.crosses; exact = t.exact })
@@ -267,16 +268,16 @@ module _ (rx : Relaxed) (shorts : ℕ → ℕ) (fit : WellFormed rx shorts) (rs 
       finite_in zero n a e = ⊎_elim
           (λ l. ⊎_elim
           (λ h. held_in rx (drawn rx rs) (near_goal rx rs) fit.long n h)
-          (λ h. absurd (some_none a (sym e ∙ first_at rx (actions rx rs) fit.long n l ∙ cond-false (in_zone rx.holds n) (Some 0) None h)))
+          (λ h. absurd (none-some a (sym (first_at rx (actions rx rs) fit.long n l ∙ cond-false (in_zone rx.holds n) (Some 0) None h) ∙ e)))
           (cases_Bool (in_zone rx.holds n)))
-          (λ l. absurd (some_none a (sym e ∙ S-past rx (actions rx rs) fit.long zero n l)))
+          (λ l. absurd (none-some a (sym (S-past rx (actions rx rs) fit.long zero n l) ∙ e)))
           (cases_lt n rx.nodes)
       finite_in (suc k) n a e = ⊎_elim
           (λ l. ⊎_elim
           (λ h. held_in rx (drawn rx rs) (near_goal rx rs) fit.long n h)
           (λ h. go (λ m b q. finite_in k m b q) (best_is (S rx (actions rx rs) fit.long k) (actions rx rs) n a (sym (S-open rx (actions rx rs) fit.long k n l h) ∙ e)))
           (cases_Bool (in_zone rx.holds n)))
-          (λ l. absurd (some_none a (sym e ∙ S-past rx (actions rx rs) fit.long (suc k) n l)))
+          (λ l. absurd (none-some a (sym (S-past rx (actions rx rs) fit.long (suc k) n l) ∙ e)))
           (cases_lt n rx.nodes)
         where
           go : ((m b : ℕ) → value_at (S rx (actions rx rs) fit.long k) m ≡ Some b → in_zone (near_start rx rs) m ≡ true) → Offered (S rx (actions rx rs) fit.long k) (actions rx rs) n a → in_zone (near_start rx rs) n ≡ true

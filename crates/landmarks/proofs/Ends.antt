@@ -5,7 +5,7 @@ use Rattle.std.proofs.lemmas.Nat.{mul-le}
 use Rattle.std.proofs.lemmas.List.{get_or_past}
 use Rattle.std.proofs.lemmas.Bool.{cases_lt, cases_eq, cond-true, cond-false, or_parts, eq-eqb, ne_eqb, eqb-false}
 use Rattle.landmarks.specs.Relaxed.{Reach, Action, Relaxed, goal}
-use Rattle.landmarks.specs.Rounds.{ceil_div, weight, Value, value_at, Crossing, crossing, edges_of, grounds_of, Outcome, noting, cap, unless_ended, settled, rounds, pairs, full_costs, outcome}
+use Rattle.landmarks.specs.Rounds.{ceil_div, weight, Value, value_at, Crossing, crossing, edges_of, grounds_of, Outcome, noting, cap, unless_ended, settled, rounds, pairs}
 use Rattle.landmarks.specs.declared.Ground.{Ground}
 use Rattle.landmarks.specs.Laws.{In, WellFormed, heavy, heavy_pairs, RoundsEnd, ValuesSettle, ValuesOnly, CutStands}
 use Rattle.landmarks.proofs.Sweeps.{justified_is}
@@ -171,13 +171,6 @@ module _ (rx : Relaxed) (shorts : ℕ → ℕ) (fit : WellFormed rx shorts) wher
 
 pub rounds_end : RoundsEnd
 rounds_end rx shorts fit = enough rx shorts fit
-
--- so the fuel of the definition suffices, and more would change nothing
-pub outcome_enough : (rx : Relaxed) (shorts : ℕ → ℕ) → WellFormed rx shorts → (fuel : ℕ) → pairs rx.actions < fuel → rounds rx fuel 1 0 (full_costs rx.actions) ≡ outcome rx
-unfolding outcome
-outcome_enough rx shorts fit fuel h =
-    let l = heavy_pairs_upto rx.actions (full_costs rx.actions) in
-    rounds_end rx shorts fit fuel (pairs rx.actions + 1) 1 0 (full_costs rx.actions) (omega arith) (omega arith)
 
 -- ---- the other laws of a round
 

@@ -157,14 +157,8 @@ record Answers (e : Estimate) (gs : List Ground) : Type 0 where
   explained : (n : ℕ) → e ≡ at_least n → n ≡ min (10 ^ 12) (ceil_div (weights gs) 5040)
   dead_none : e ≡ dead → gs ≡ []
 
-same_number : (m n : ℕ) → at_least m ≡ at_least n → m ≡ n
-same_number m n e = cc
-
-not_dead : (n : ℕ) → at_least n ≡ dead → ⊥
-not_dead n e = let z : ◌≡◌ {A = ℕ} 0 1 = cc in omega arith
-
 no_answer : Answers (at_least 0) []
-no_answer = record { ordered = tt; explained = λ n e. let z = same_number 0 n e in sym z; dead_none = λ e. refl }
+no_answer = record { ordered = tt; explained = λ n e. cc; dead_none = λ e. refl }
 
 outcome_answers : (p : Problem) → Keeps p → (s : State) → Answers (told (outcome (relaxed p s))) (listed (outcome (relaxed p s)))
 unfolding outcome
@@ -173,14 +167,14 @@ outcome_answers p k s = go (outcome (relaxed p s))
     (rounds_add (relaxed p s) (shorts p s) (relaxed_fits p s k) (pairs (relaxed p s).actions + 1) 0 1 0 (full_costs (relaxed p s).actions) (omega arith))
   where
     go : (o : Outcome) → Orderly 1 o → AddsUp 0 0 o → Answers (told o) (listed o)
-    go Dead h a = record { ordered = tt; explained = λ n e. absurd (not_dead n (sym e)); dead_none = λ e. refl }
+    go Dead h a = record { ordered = tt; explained = λ n e. cc; dead_none = λ e. refl }
     go (Found t gs) h a = record {
       ordered = h.ordered;
       explained = λ n e.
-          let z = same_number (min (10 ^ 12) (ceil_div t 5040)) n e in
+          let z : min (10 ^ 12) (ceil_div t 5040) ≡ n = cc in
           let w : t ≡ weights gs = omega arith in
           sym z ∙ ap (λ m. min (10 ^ 12) (ceil_div m 5040)) w;
-      dead_none = λ e. absurd (not_dead (min (10 ^ 12) (ceil_div t 5040)) e);
+      dead_none = λ e. cc;
     }
 
 pub grounds_explain : GroundsExplain

@@ -49,9 +49,6 @@ distribute a (negsuc n) c = distribute_neg a n c
 
 -- ---- the sum after effects is the sum before and their gain
 
-regroup : (a b x y : ℤ) → (a +ℤ b) +ℤ (x +ℤ y) ≡ (a +ℤ x) +ℤ (b +ℤ y)
-regroup a b x y = omega (arith, ints)
-
 sum_from : (t u : State) (es ls : List Link) (a b : ℤ) → AllByRecursion (λ l. value_of u l.subject ≡ value_of t l.subject +ℤ change es l.subject) ls
     → fold (add_term u) (a +ℤ b) ls ≡ fold (add_term t) a ls +ℤ fold (add_gain es) b ls
 sum_from t u es [] a b h = refl
@@ -61,7 +58,7 @@ sum_from t u es (l ∷ ls) a b h =
     let c = change es l.subject in
     let e : w *ℤ value_of u l.subject ≡ w *ℤ v +ℤ w *ℤ c =
     ap (λ z. w *ℤ z) h.0 ∙ *ℤ_comm w (v +ℤ c) ∙ distribute v c w ∙ ap₂ ◌+ℤ◌ (*ℤ_comm v w) (*ℤ_comm c w) in
-    ap (λ z. fold (add_term u) z ls) (ap (λ z. (a +ℤ b) +ℤ z) e ∙ regroup a b (w *ℤ v) (w *ℤ c))
+    ap (λ z. fold (add_term u) z ls) (ap (λ z. (a +ℤ b) +ℤ z) e ∙ omega (arith, ints))
     ∙ sum_from t u es ls (a +ℤ w *ℤ v) (b +ℤ w *ℤ c) h.1
 
 pub sum_after : (p : Problem) → Keeps p → (t u : State) (es : List Link) → Follows t es u → (c : Condition) → ConditionKeeps p c

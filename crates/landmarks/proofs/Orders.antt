@@ -1,7 +1,9 @@
 -- The order of values, and membership in lists.
-use Rattle.std.proofs.Common.{◌≡◌, ℕ, zero, suc, ◌+◌, ◌<◌, ◌≤◌, min, max, Bool, true, false, ◌⊎◌, List, [], ◌∷◌, map, length, get_or, Some, None, sym, refl, ap, subst, inl, inr, ⊎_elim, arith}
+use Rattle.std.proofs.Common.{◌≡◌, ℕ, zero, suc, ◌+◌, ◌<◌, ◌≤◌, min, max, true, false, ◌⊎◌, List, [], ◌∷◌, map, length, get_or, replicate, Some, None, refl, ap, subst, inl, inr, ⊎_elim, arith}
+use Rattle.std.proofs.lemmas.Option.{same_Some, none-some}
 use Rattle.std.specs.List.{AllByRecursion}
 use Rattle.std.proofs.lemmas.Bool.{cases_lt}
+use Rattle.std.proofs.lemmas.List.{get_or_past, get_or-replicate, length-replicate}
 use Rattle.landmarks.specs.Rounds.{Value, smaller, larger, plus, above}
 use Rattle.landmarks.specs.Laws.{In, ◌≼◌, ◌≺◌}
 
@@ -28,13 +30,11 @@ pub map_in : {X Y : Type 0} (f : X → Y) (xs : List X) (x : X) → In x xs → 
 map_in f [] x i = absurd i
 map_in f (y ∷ ys) x i = ⊎_elim (λ e. inl (ap f e)) (λ j. inr (map_in f ys x j)) i
 
+-- a list of one element many times has it everywhere, where a place past the end counts as it
+pub replicate_at : {X : Type 0} (n i : ℕ) (x : X) → get_or (replicate n x) i x ≡ x
+replicate_at {X} n i x = ⊎_elim (λ h. get_or-replicate n i x x h) (λ h. get_or_past (replicate n x) i x (let l = length-replicate {A = X} n x in omega arith)) (cases_lt i n)
+
 -- ---- values
-
-pub some_same : (a b : ℕ) → ◌≡◌ {A = Value} (Some a) (Some b) → a ≡ b
-some_same a b e = cc
-
-pub some_none : (a : ℕ) → ◌≡◌ {A = Value} (Some a) None → ⊥
-some_none a e = let z : ◌≡◌ {A = ℕ} 0 1 = cc in omega arith
 
 pub ≼_refl : (x : Value) → x ≼ x
 ≼_refl None = tt
@@ -130,22 +130,19 @@ plus_zero None w e = tt
 plus_zero (Some a) w e = omega arith
 
 pub plus_some : (x : Value) (w b : ℕ) → plus x w ≡ Some b → (a : ℕ) × (x ≡ Some a) × (a + w ≡ b)
-plus_some None w b e = absurd (some_none b (sym e))
-plus_some (Some a) w b e = (a, refl, some_same (a + w) b e)
+plus_some None w b e = absurd (none-some b e)
+plus_some (Some a) w b e = (a, refl, same_Some (a + w) b e)
 
 -- ---- above
 
 pub above_true : (x y : Value) → above x y ≡ true → y ≼ x
 above_true None None e = tt
 above_true None (Some b) e = tt
-above_true (Some a) None e = let z : ◌≡◌ {A = Bool} false true = e in absurd (no_way z)
-  where
-    no_way : ◌≡◌ {A = Bool} false true → ⊥
-    no_way z = let w : ◌≡◌ {A = ℕ} 0 1 = cc in omega arith
+above_true (Some a) None e = cc
 above_true (Some a) (Some b) e = grind (arith, Rattle.std.proofs.lemmas.Bool.Decides.nat_tests)
 
 pub above_false : (x y : Value) → above x y ≡ false → x ≼ y
 above_false None None e = tt
-above_false None (Some b) e = let w : ◌≡◌ {A = ℕ} 0 1 = cc in absurd (omega arith)
+above_false None (Some b) e = cc
 above_false (Some a) None e = tt
 above_false (Some a) (Some b) e = grind (arith, Rattle.std.proofs.lemmas.Bool.Decides.nat_tests)

@@ -1,7 +1,7 @@
 -- Runs of a relaxed task: lists of actions, by place, each of whose needs is covered by the actions before it. A node is covered
 -- where it holds, or where the gains towards it add up to its shortfall. Every run that covers the goal pays for each cut.
 use Rattle.std.proofs.Common.{◌≡◌, ℕ, zero, suc, ◌+◌, ◌<◌, ◌≤◌, max, Bool, true, false, cond, eqb, ◌⊎◌, List, [], ◌∷◌, length, get_or, Some, refl, ap, ◌∙◌, subst, ap₂, inl, inr, ⊎_elim, arith}
-use Rattle.std.proofs.lemmas.Bool.{cases_lt, cases_eq, cases_Bool, and_parts, and_from, or_cases, or_left, or_right, cond-true, cond-false, eqb-true, leb-true, le-leb, true≢false, false≢true}
+use Rattle.std.proofs.lemmas.Bool.{cases_eq, cases_Bool, eqb-true}
 use Rattle.landmarks.specs.Relaxed.{Reach, Action, Relaxed}
 use Rattle.landmarks.specs.Rounds.{ceil_div, weight, Value, plus, Loaded, loaded, value_at, largest, chosen, Edges, edges_of, in_zone, starts, Crossing, crossing, cut, charge, charge_of}
 use Rattle.landmarks.specs.Laws.{In, ◌≼◌, WellFormed}
@@ -130,7 +130,4 @@ find_below t (suc n) = go (t n) refl (find_below t n)
     go : (b : Bool) → t n ≡ b → ((k : ℕ) × (k < n) × (t k ≡ true)) ⊎ ((k : ℕ) → k < n → t k ≡ false) → ((k : ℕ) × (k < suc n) × (t k ≡ true)) ⊎ ((k : ℕ) → k < suc n → t k ≡ false)
     go true e r = inl (n, omega arith, e)
     go false e (inl f) = let l = f.1 in inl (f.0, omega arith, f.2)
-    go false e (inr f) = inr (λ k h. ⊎_elim (λ q. ap t q ∙ e) (λ ne. f k (below k h ne (Rattle.std.proofs.lemmas.Bool.cases_order k n))) (cases_eq k n))
-      where
-        below : (k : ℕ) → k < suc n → (k ≡ n → ⊥) → (k ≡ n) ⊎ ((k < n) ⊎ (n < k)) → k < n
-        below k h ne c = ⊎_elim (λ q. absurd (ne q)) (λ d. ⊎_elim (λ l. l) (λ l. absurd (omega arith)) d) c
+    go false e (inr f) = inr (λ k h. ⊎_elim (λ q. ap t q ∙ e) (λ ne. f k (omega arith)) (cases_eq k n))

@@ -1,12 +1,13 @@
 -- The rounds look at what an action needs as a set: two relaxed tasks whose actions need the same nodes have one outcome.
 use Rattle.std.proofs.Common.{◌≡◌, ℕ, zero, suc, ◌+◌, ◌-◌, ◌*◌, Bool, true, false, cond, not, ◌&&◌, ◌||◌, ltb, List, [], ◌∷◌, length, set, replicate, Some, None, Option, sym, refl, ap, ◌∙◌, subst, ap₂, ⊎_elim, arith}
+use Rattle.std.proofs.lemmas.Option.{same_Some}
 use Rattle.std.proofs.lemmas.Bool.{true≢false, cases_Bool}
 use Rattle.std.proofs.lemmas.Bool.Decides.{nat_tests}
 use Rattle.landmarks.specs.Laws.{In}
 use Rattle.landmarks.specs.Relaxed.{Reach, Action, Relaxed, goal}
 use Rattle.landmarks.specs.Rounds.{Value, repeated, above, Loaded, loaded, value_at, smaller, largest, offer, best, swept_from, sweep, first_values, values, beats, picked, chosen, Edges, graph, goal_turn, goal_zone, start_turn, start_zone, Crossing, crossings, cut, cut_in, cut_weight, left_after, grounds_of, noting, settled, Outcome, rounds, pairs, full_costs, outcome}
 use Rattle.landmarks.proofs.Cuts.{chosen_in, chosen_ground}
-use Rattle.landmarks.proofs.Orders.{≼_antisym, some_same}
+use Rattle.landmarks.proofs.Orders.{≼_antisym}
 use Rattle.landmarks.proofs.Sweeps.{largest_high, largest_least}
 
 -- two lists with the same members
@@ -111,10 +112,10 @@ chosen_first vs (n ∷ ns) i e m h = go (chosen vs ns) refl e (λ k q. chosen_fi
   where
     go : (o : Option ℕ) → chosen vs ns ≡ o → picked vs n o ≡ Some i → ((k : ℕ) → chosen vs ns ≡ Some k → (m' : ℕ) → In m' ns → beats vs m' k ≡ false) → beats vs m i ≡ false
     go None q e ih =
-        let same : n ≡ i = some_same n i e in
+        let same : n ≡ i = same_Some n i e in
         let none = chosen_ground vs ns q in
         ⊎_elim (λ z. ap₂ (beats vs) (sym z ∙ same) refl ∙ beats_self (value_at vs i) i) (λ z. absurd (subst (In m) none z)) h
-    go (Some k) q e ih = pick (beats vs n k) refl (some_same (cond (beats vs n k) n k) i e)
+    go (Some k) q e ih = pick (beats vs n k) refl (same_Some (cond (beats vs n k) n k) i e)
       where
         pick : (b : Bool) → beats vs n k ≡ b → cond b n k ≡ i → beats vs m i ≡ false
         pick true t z = ⊎_elim

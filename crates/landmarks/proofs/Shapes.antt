@@ -61,10 +61,7 @@ pub data Place (facts conditions n : ℕ) : Type 0 where
   is_none : facts + conditions < n → Place facts conditions n
 
 pub place : (facts conditions n : ℕ) → Place facts conditions n
-place f c n = ⊎_elim is_fact (λ h. ⊎_elim (λ l. is_condition (n - f) (omega arith) (omega arith)) (λ l. ⊎_elim is_goal (λ ne. is_none (above n ne l)) (cases_eq n (f + c))) (cases_lt n (f + c))) (cases_lt n f)
-  where
-    above : (n : ℕ) → (n ≡ f + c → ⊥) → f + c ≤ n → f + c < n
-    above n ne l = ⊎_elim (λ h. h) (λ h. absurd (ne (omega arith))) (cases_lt (f + c) n)
+place f c n = ⊎_elim is_fact (λ h. ⊎_elim (λ l. is_condition (n - f) (omega arith) (omega arith)) (λ l. ⊎_elim is_goal (λ ne. is_none (omega arith)) (cases_eq n (f + c))) (cases_lt n (f + c))) (cases_lt n f)
 
 -- ---- which nodes hold
 

@@ -1,5 +1,6 @@
 -- How large the numbers of a question can be.
 use Rattle.std.proofs.Common.{◌≡◌, ℕ, zero, suc, ◌+◌, ◌*◌, ◌<◌, ◌≤◌, Bool, true, false, cond, ◌&&◌, ◌||◌, eqb, leb, List, [], ◌∷◌, map, length, get_or, ℤ, pos, ◌+ℤ◌, ◌-ℤ◌, ◌*ℤ◌, nat_abs, Some, None, fold, sym, refl, ap, ◌∙◌, subst, inl, inr, ⊎_elim, add-mul, one-mul, div-le_self, arith}
+use Rattle.std.proofs.lemmas.Option.{same_Some, none-some}
 use lib.IntN.{+ℤ_idr}
 use Rattle.std.specs.List.{AllByRecursion}
 use Rattle.std.proofs.lemmas.Nat.{mul-le}
@@ -27,7 +28,7 @@ use Rattle.landmarks.specs.Relaxed.{Reach, Action, Relaxed, goal, shortfall, gai
 use Rattle.landmarks.specs.Rounds.{weight, Value, Loaded, loaded, value_at, largest, values, in_zone, lightest_of, or_zero, grounds_of, Outcome, Dead, Found, noting, cap, unless_ended, settled, rounds, pairs, full_costs, outcome}
 use Rattle.landmarks.specs.declared.Ground.{Ground}
 use Rattle.landmarks.specs.Laws.{In, ◌≼◌, WellFormed, most_left, heaviest, SizesStand}
-use Rattle.landmarks.proofs.Orders.{all_in, in_map, in_get_or, some_same, some_none, below_some, plus_some}
+use Rattle.landmarks.proofs.Orders.{all_in, in_map, in_get_or, below_some, plus_some}
 use Rattle.landmarks.proofs.Sweeps.{pigeonhole, largest_high, largest_least, Offered, best_is, S, S-open, S-past, S-held, first_at}
 use Rattle.landmarks.proofs.Cuts.{loaded_from, crossing_is, lightest_is, actions, worth, cut_now, weight_now}
 use Rattle.landmarks.proofs.Totals.{in_append, rest_now, length_rest, rest_at}
@@ -134,25 +135,22 @@ module _ (p : Problem) (k : Keeps p) where
 
 -- ---- weights and values
 
-product_small : (d r b c : ℕ) → d ≤ b → r ≤ c → d * r ≤ b * c
-product_small d r b c h l = mul-le d r b c h l
-
 -- where no edge weighs more than w, values after k sweeps are at most k × w
 module _ (rx : Relaxed) (qs : List Loaded) (long : length rx.holds ≡ rx.nodes) (w : ℕ) (light : (q : Loaded) → In q qs → (x : Reach) → In x q.reaches → weight q.left x ≤ w) where
   swept_small : (k n v : ℕ) → value_at (S rx qs long k) n ≡ Some v → v ≤ k * w
   swept_small zero n v e = ⊎_elim
       (λ h. ⊎_elim
-      (λ t. let z = some_same v 0 (sym e ∙ S-held rx qs long 0 n h t) in omega arith)
-      (λ t. absurd (some_none v (sym e ∙ first_at rx qs long n h ∙ cond-false (in_zone rx.holds n) (Some 0) None t)))
+      (λ t. let z = same_Some v 0 (sym e ∙ S-held rx qs long 0 n h t) in omega arith)
+      (λ t. absurd (none-some v (sym (first_at rx qs long n h ∙ cond-false (in_zone rx.holds n) (Some 0) None t) ∙ e)))
       (cases_Bool (in_zone rx.holds n)))
-      (λ h. absurd (some_none v (sym e ∙ S-past rx qs long 0 n h)))
+      (λ h. absurd (none-some v (sym (S-past rx qs long 0 n h) ∙ e)))
       (cases_lt n rx.nodes)
   swept_small (suc k) n v e = ⊎_elim
       (λ h. ⊎_elim
-      (λ t. let z = some_same v 0 (sym e ∙ S-held rx qs long (suc k) n h t) in omega arith)
+      (λ t. let z = same_Some v 0 (sym e ∙ S-held rx qs long (suc k) n h t) in omega arith)
       (λ t. go (λ m u q. swept_small k m u q) (best_is (S rx qs long k) qs n v (sym (S-open rx qs long k n h t) ∙ e)))
       (cases_Bool (in_zone rx.holds n)))
-      (λ h. absurd (some_none v (sym e ∙ S-past rx qs long (suc k) n h)))
+      (λ h. absurd (none-some v (sym (S-past rx qs long (suc k) n h) ∙ e)))
       (cases_lt n rx.nodes)
     where
       go : ((m u : ℕ) → value_at (S rx qs long k) m ≡ Some u → u ≤ k * w) → Offered (S rx qs long k) qs n v → v ≤ suc k * w
@@ -283,7 +281,7 @@ module _ (p : Problem) (k : Keeps p) (s : State) (i : is_state p s ≡ true) whe
 
   pub action_weighs : (a : Action) → In a (relaxed p s).actions → (x : Reach) → In x a.reaches → (r : ℕ) → r ≤ most_left → (x.short * r ≤ heaviest) × (weight r x ≤ heaviest)
   action_weighs a j x q r h =
-      let l : x.short * r ≤ heaviest = product_small x.short r 36000001 most_left (action_short a j x q) h in
+      let l : x.short * r ≤ heaviest = mul-le x.short r 36000001 most_left (action_short a j x q) h in
       let d = div-le_self (x.short * r) x.gain in
       (l, omega arith)
 

@@ -1,5 +1,6 @@
 -- The sweeps fall, and settle after as many as there are nodes; and the settled values are the only justified valuation.
 use Rattle.std.proofs.Common.{◌≡◌, ℕ, zero, suc, ◌+◌, ◌-◌, ◌<◌, ◌≤◌, Bool, true, false, cond, not, eqb, ◌⊎◌, List, [], ◌∷◌, length, get_or, Some, None, filter, sym, refl, ap, ◌∙◌, subst, inl, inr, ⊎_elim, zero-add, arith}
+use Rattle.std.proofs.lemmas.Option.{none-some}
 use Rattle.std.specs.List.{AllByRecursion}
 use Rattle.std.proofs.ByRecursion.{All-weaker}
 use Rattle.std.proofs.lemmas.List.{get_or_past, get_or-map, length-map, same_lists, get_or_default}
@@ -8,7 +9,7 @@ use Rattle.tables.specs.Rules.{Once}
 use Rattle.landmarks.specs.Relaxed.{Reach, Relaxed}
 use Rattle.landmarks.specs.Rounds.{repeated, weight, Value, smaller, larger, plus, Loaded, value_at, largest, offer, best, swept_from, sweep, first_values, values, in_zone}
 use Rattle.landmarks.specs.Laws.{In, ◌≼◌, ◌≺◌, Settles, Justified}
-use Rattle.landmarks.proofs.Orders.{some_none, ≼_refl, ≼_eq, ≼_trans, ≼_antisym, zero_≼, cases_≼, ≺_not, ≺_some, smaller_left, smaller_right, smaller_is, larger_left, larger_right, larger_least, plus_mono, plus_above}
+use Rattle.landmarks.proofs.Orders.{≼_refl, ≼_eq, ≼_trans, ≼_antisym, zero_≼, cases_≼, ≺_not, ≺_some, smaller_left, smaller_right, smaller_is, larger_left, larger_right, larger_least, plus_mono, plus_above}
 
 -- ---- no more than n distinct numbers below n
 
@@ -52,7 +53,7 @@ kept_below n (x ∷ xs) h = go (eqb x n) refl (kept_below n xs h.1)
   where
     go : (b : Bool) → eqb x n ≡ b → AllByRecursion (λ y. y < n) (filter (others n) xs) → AllByRecursion (λ y. y < n) (cond (not b) (x ∷ filter (others n) xs) (filter (others n) xs))
     go true e ih = ih
-    go false e ih = let ne = Rattle.std.proofs.lemmas.Bool.eqb-false x n e in let l = h.0 in let k : x < n = ⊎_elim (λ s. absurd (ne s)) (λ d. ⊎_elim (λ y. y) (λ y. absurd (omega arith)) d) (Rattle.std.proofs.lemmas.Bool.cases_order x n) in (k, ih)
+    go false e ih = let ne = Rattle.std.proofs.lemmas.Bool.eqb-false x n e in let l = h.0 in (omega arith, ih)
 
 pub pigeonhole : (n : ℕ) (xs : List ℕ) → Once xs → AllByRecursion (λ x. x < n) xs → length xs ≤ n
 pigeonhole zero [] o h = omega arith
@@ -91,7 +92,7 @@ offer_low r v (y ∷ ys) x i =
 
 offer_is : (r : ℕ) (v : Value) (xs : List Reach) (n b : ℕ) → offer r v xs n ≡ Some b → (x : Reach) × In x xs × (x.node ≡ n) × (plus v (weight r x) ≡ Some b)
 unfolding offer
-offer_is r v [] n b e = absurd (some_none b (sym e))
+offer_is r v [] n b e = absurd (none-some b e)
 offer_is r v (y ∷ ys) n b e = ⊎_elim
     (λ s. go (eqb y.node n) refl (sym s ∙ e))
     (λ s. let r' = offer_is r v ys n b (sym s ∙ e) in (r'.0, inr r'.1, r'.2, r'.3))
@@ -99,7 +100,7 @@ offer_is r v (y ∷ ys) n b e = ⊎_elim
   where
     go : (t : Bool) → eqb y.node n ≡ t → cond t (plus v (weight r y)) None ≡ Some b → (x : Reach) × In x (y ∷ ys) × (x.node ≡ n) × (plus v (weight r x) ≡ Some b)
     go true q z = (y, inl refl, eqb-true _ _ q, z)
-    go false q z = absurd (some_none b (sym z))
+    go false q z = absurd (none-some b z)
 
 pub best_low : (vs : List Value) (qs : List Loaded) (q : Loaded) (x : Reach) → In q qs → In x q.reaches → best vs qs x.node ≼ plus (largest vs q.needs) (weight q.left x)
 unfolding best
@@ -124,7 +125,7 @@ pub record Offered (vs : List Value) (qs : List Loaded) (n b : ℕ) : Type 0 whe
 
 pub best_is : (vs : List Value) (qs : List Loaded) (n b : ℕ) → best vs qs n ≡ Some b → Offered vs qs n b
 unfolding best
-best_is vs [] n b e = absurd (some_none b (sym e))
+best_is vs [] n b e = absurd (none-some b e)
 best_is vs (q ∷ qs) n b e = ⊎_elim
     (λ s. let r = offer_is q.left (largest vs q.needs) q.reaches n b (sym s ∙ e) in record { by = q; among = inl refl; edge = r.0; reached = r.1; here = r.2; exact = r.3 })
     (λ s. let r = best_is vs qs n b (sym s ∙ e) in record { by = r.by; among = inr r.among; edge = r.edge; reached = r.reached; here = r.here; exact = r.exact })
@@ -175,9 +176,6 @@ module _ (rx : Relaxed) (qs : List Loaded) (long : length rx.holds ≡ rx.nodes)
 
   sweep_long : (vs : List Value) → length (sweep rx qs vs) ≡ rx.nodes
   sweep_long vs = length_swept vs qs 0 rx.holds ∙ long
-
-  sweep_past : (vs : List Value) (n : ℕ) → rx.nodes ≤ n → value_at (sweep rx qs vs) n ≡ None
-  sweep_past vs n h = get_or_past (sweep rx qs vs) n None (let e = sweep_long vs in omega arith)
 
   pub S-suc : (k : ℕ) → S (suc k) ≡ sweep rx qs (S k)
   S-suc k = repeated_suc (sweep rx qs) k (first_values rx.holds)

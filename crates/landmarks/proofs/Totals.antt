@@ -1,5 +1,6 @@
 -- All rounds together: a run that covers the goal pays for the total, and no action is charged more than its cost.
 use Rattle.std.proofs.Common.{◌≡◌, ℕ, zero, suc, ◌+◌, ◌-◌, ◌<◌, ◌≤◌, Bool, true, false, cond, ◌&&◌, ◌||◌, eqb, leb, ◌⊎◌, List, [], ◌∷◌, ◌++◌, length, get_or, Some, None, sym, refl, ap, ◌∙◌, inl, inr, ⊎_elim, arith}
+use Rattle.std.proofs.lemmas.Option.{none-some}
 use Rattle.std.specs.List.{AllByRecursion}
 use Rattle.std.proofs.lemmas.List.{get_or-map, length-map}
 use Rattle.std.proofs.lemmas.Bool.{and_from, or_parts, cond-true, cond-false, eqb-false, eq-eqb, ne_eqb, true≢false}
@@ -7,7 +8,6 @@ use Rattle.landmarks.specs.Relaxed.{Reach, Relaxed, goal}
 use Rattle.landmarks.specs.Rounds.{Value, value_at, Crossing, charge, charge_of, left_after, crosses, grounds_of, Outcome, Dead, Found, noting, cap, unless_ended, settled, rounds}
 use Rattle.landmarks.specs.declared.Ground.{Ground}
 use Rattle.landmarks.specs.Laws.{In, WellFormed, charged_in, charged_to}
-use Rattle.landmarks.proofs.Orders.{some_none}
 use Rattle.landmarks.proofs.Cuts.{worth, cut_now, weight_now}
 use Rattle.landmarks.proofs.Runs.{RunFrom, CoveredAfter, run_finite}
 use Rattle.landmarks.proofs.Landmarks.{no_crossing, charge_at, charged, length_cut, cut_at, charge_at_within, landmark}
@@ -185,7 +185,7 @@ module _ (rx : Relaxed) (shorts : ℕ → ℕ) (fit : WellFormed rx shorts) (tod
           positive_of (suc w) ne = omega arith
 
       go : (o : Value) → value_at (worth rx rs) (goal rx) ≡ o → Affordable (rest_now rx rs) todo (total + weight_now rx rs) rest → Affordable rs todo total (settled o total next)
-      go None e ih = let f = run_finite rx shorts fit rs todo run (goal rx) wins in absurd (some_none f.0 (sym f.1 ∙ e))
+      go None e ih = let f = run_finite rx shorts fit rs todo run (goal rx) wins in absurd (none-some f.0 (sym (e) ∙ f.1))
       go (Some v) e ih = ends v e ih (eqb v 0 || leb cap total) refl
 
 -- ---- no action is charged more than its cost

@@ -1,10 +1,11 @@
 -- Zones: as many turns as there are nodes close them.
 use Rattle.std.proofs.Common.{◌≡◌, ℕ, zero, suc, ◌+◌, ◌<◌, ◌≤◌, Bool, true, false, cond, not, ◌&&◌, ◌||◌, eqb, ◌⊎◌, List, [], ◌∷◌, length, get_or, set, replicate, Some, None, Option, sym, refl, ap, ◌∙◌, subst, inl, inr, ⊎_elim, zero-add, arith}
-use Rattle.std.proofs.lemmas.List.{get_or_past, get_or-set_same, get_or-set_other, get_or-replicate, length-set, length-replicate, same_lists, get_or_default}
+use Rattle.std.proofs.lemmas.List.{get_or_past, get_or-set_same, get_or-set_other, length-set, length-replicate, same_lists, get_or_default}
 use Rattle.std.proofs.lemmas.Bool.{cases_lt, cases_eq, eqb-true, eq-eqb, and_parts, and_from, or_cases, or_left, or_right, not-true, true≢false, false≢true}
 use Rattle.landmarks.specs.Relaxed.{Reach, Relaxed, goal}
 use Rattle.landmarks.specs.Rounds.{repeated, weight, Edges, in_zone, grow, is_node, weightless_into, leads_in, goal_zone, starts, runs_to, led_to, start_zone}
 use Rattle.landmarks.specs.Laws.{In, Within, GoalZoneOnly, StartZoneOnly}
+use Rattle.landmarks.proofs.Orders.{replicate_at}
 
 -- ---- what a turn adds
 
@@ -178,10 +179,7 @@ led_from (f ∷ fs) z e x i s j = ⊎_elim
 
 module _ (rx : Relaxed) (es : List Edges) (some_node : 1 ≤ rx.nodes) where
   only_goal : (i : ℕ) → in_zone (set (replicate rx.nodes false) (goal rx) true) i ≡ true → i ≡ goal rx
-  only_goal i e = ⊎_elim (λ q. q) (λ ne. absurd (false≢true (sym (none i) ∙ sym (get_or-set_other (replicate rx.nodes false) (goal rx) i true false ne) ∙ e))) (cases_eq i (goal rx))
-    where
-      none : (i : ℕ) → in_zone (replicate rx.nodes false) i ≡ false
-      none i = ⊎_elim (λ h. get_or-replicate rx.nodes i false false h) (λ h. get_or_past (replicate rx.nodes false) i false (let l = length-replicate rx.nodes false in omega arith)) (cases_lt i rx.nodes)
+  only_goal i e = ⊎_elim (λ q. q) (λ ne. absurd (false≢true (sym (replicate_at rx.nodes i false) ∙ sym (get_or-set_other (replicate rx.nodes false) (goal rx) i true false ne) ∙ e))) (cases_eq i (goal rx))
 
   first_long : length (set (replicate rx.nodes false) (goal rx) true) ≡ rx.nodes
   first_long = length-set (replicate rx.nodes false) (goal rx) true ∙ length-replicate rx.nodes false

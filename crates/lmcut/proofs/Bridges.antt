@@ -9,9 +9,6 @@ use Rattle.lmcut.specs.declared.question.Question.{Question}
 -- ---- the graph
 
 module _ (q : Question) (rs : List ℕ) (ss : List (Option ℕ)) (vs : List Value) where
-  load : ℕ → ℕ → Loaded
-  load a r = record { left = r; needs = (action_at q a).needs; reaches = (action_at q a).reaches }
-
   graph_from : (s k : ℕ) (ys : List ℕ) → ((i : ℕ) → get_or ys i 0 ≡ get_or rs (s + i) 0) → ((a : ℕ) → s ≤ a → a < s + k → get_or ss a None ≡ chosen vs (action_at q a).needs)
       → edges_from q rs ss s k ≡ graph vs (loaded (actions_from q s k) ys)
   unfolding loaded actions_from edges_from

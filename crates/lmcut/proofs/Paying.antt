@@ -1,30 +1,17 @@
 -- The remainders after a round, action by action.
-use Rattle.std.proofs.Common.{◌≡◌, ℕ, zero, suc, ◌+◌, ◌-◌, ◌*◌, ◌<◌, ◌≤◌, max, Bool, true, ltb, List, [], ◌∷◌, length, get_or, take, set, Some, None, Option, sym, refl, ap, ◌∙◌, subst, inl, inr, ⊎_elim, arith, below_more}
-use Rattle.std.proofs.lemmas.List.{get_or-set_same, get_or-set_other, get_or-take, get_or-map, length-map, length-set, length-take-le, ext_get_or}
+use Rattle.std.proofs.Common.{◌≡◌, ℕ, zero, suc, ◌+◌, ◌-◌, ◌*◌, ◌<◌, ◌≤◌, max, Bool, true, ltb, List, [], ◌∷◌, ◌++◌, length, get_or, take, drop, set, None, Option, sym, refl, ap, ◌∙◌, inl, inr, ⊎_elim, arith, below_more}
+use Rattle.std.proofs.lemmas.List.{get_or-set_same, get_or-set_other, get_or-take, get_or-map, get_or-drop, get_or_append_left, get_or-append_right, length-map, length-set, length-take-le, take-append-le, take_all, ext_get_or}
 use Rattle.std.proofs.lemmas.Nat.{mul-le}
 use Rattle.std.proofs.lemmas.Bool.{cases_lt, cases_eq, lt-ltb}
 use Rattle.lmcut.specs.Drawn.{edges_at, edges_from, edges_in, paid, Modest, Light}
 use Rattle.landmarks.specs.Laws.{In}
-use Rattle.lmcut.specs.Questions.{edge_at, reach_of, with_edge, reaches_from}
+use Rattle.lmcut.specs.Questions.{reach_of}
 use Rattle.landmarks.specs.Relaxed.{Reach}
 use Rattle.landmarks.specs.Rounds.{ceil_div, Edges, Crossing, crossing, crossings, starts, cut_weight, charge, charge_of, left_after, crosses}
-use Rattle.lmcut.specs.declared.question.Edge.{Edge}
 use Rattle.lmcut.specs.declared.question.Question.{Question}
 use Rattle.landmarks.proofs.Orders.{map_in}
 use Rattle.landmarks.proofs.Cuts.{crossing_in, weight_least, ceil_high}
-
--- ---- edges that arrays hold
-
-pub reaches_in : (q : Question) (a s k n : ℕ) (e : Edge) → s ≤ n → n < s + k → edge_at q a n ≡ Some e → In (reach_of n e) (reaches_from q a s k)
-unfolding reaches_from
-reaches_in q a s zero n e l h t = absurd (omega arith)
-reaches_in q a s (suc k) n e l h t = ⊎_elim
-    (λ z. subst (λ (o : Option Edge). In (reach_of n e) (with_edge s o (reaches_from q a (s + 1) k))) (sym (ap (edge_at q a) z ∙ t)) (inl (ap (λ m. reach_of m e) z)))
-    (λ ne. go (edge_at q a s) (reaches_in q a (s + 1) k n e (omega arith) (omega arith) t)) (cases_eq s n)
-  where
-    go : (o : Option Edge) → In (reach_of n e) (reaches_from q a (s + 1) k) → In (reach_of n e) (with_edge s o (reaches_from q a (s + 1) k))
-    go None i = i
-    go (Some f) i = inr i
+use Rattle.lmcut.proofs.Prepared.{in_reaches}
 
 pub edges_in_from : (q : Question) (rs : List ℕ) (ss : List (Option ℕ)) (s k a : ℕ) → s ≤ a → a < s + k → In (edges_at q rs ss a) (edges_from q rs ss s k)
 unfolding edges_from
@@ -48,58 +35,64 @@ pub light_cut : (q : Question) (rs : List ℕ) (ss : List (Option ℕ)) (near st
 light_cut q rs ss near start a h s n e k t z =
     weight_least (crossings (edges_in q rs ss) near start) (crossing near start (edges_at q rs ss a)) (reach_of n e)
     (map_in (crossing near start) (edges_in q rs ss) (edges_at q rs ss a) (edges_in_from q rs ss 0 q.actions a (omega arith) (omega arith)))
-    (crossing_in near start (edges_at q rs ss a) (reach_of n e) s (reaches_in q a 0 q.nodes n e (omega arith) (omega arith) t) z)
+    (crossing_in near start (edges_at q rs ss a) (reach_of n e) s (in_reaches q a 0 q.nodes n e t (omega arith) (omega arith)) z)
 
 -- ---- what has been paid
 
+-- of the actions' remainders, those before the i-th are charged
 pub record Paying (q : Question) (whole : List ℕ) (ss : List (Option ℕ)) (near start : List Bool) (μ i : ℕ) (rs : List ℕ) : Type 0 where
-  pub long : length rs ≡ 257
+  pub long : length rs ≡ q.actions
   pub done : (k : ℕ) → k < i → get_or rs k 0 ≡ get_or whole k 0 - paid q ss near start μ k
-  pub rest : (k : ℕ) → i ≤ k → get_or rs k 0 ≡ get_or whole k 0
+  pub rest : (k : ℕ) → i ≤ k → k < q.actions → get_or rs k 0 ≡ get_or whole k 0
 
-pub paying_start : (q : Question) (rs : List ℕ) (ss : List (Option ℕ)) (near start : List Bool) (μ : ℕ) → length rs ≡ 257 → Paying q rs ss near start μ 0 rs
-paying_start q rs ss near start μ h = record { long = h; done = λ k l. absurd (omega arith); rest = λ k l. refl }
+module _ (q : Question) (whole : List ℕ) (ss : List (Option ℕ)) (near start : List Bool) (μ : ℕ) where
+  pub paying_start : q.actions ≤ length whole → Paying q whole ss near start μ 0 (take q.actions whole)
+  paying_start h = record { long = length-take-le q.actions whole h; done = λ k l. absurd (omega arith); rest = λ k l m. get_or-take q.actions whole k 0 m }
 
-pub paying_step : (q : Question) (whole : List ℕ) (ss : List (Option ℕ)) (near start : List Bool) (μ i : ℕ) (rs : List ℕ) (x : ℕ) → i < 257 → x ≡ get_or rs i 0 - paid q ss near start μ i → Paying q whole ss near start μ i rs
-    → Paying q whole ss near start μ (i + 1) (set rs i x)
-paying_step q whole ss near start μ i rs x h e w = record {
-  long = length-set rs i x ∙ w.long;
-  done = below_more (λ k. get_or (set rs i x) k 0 ≡ get_or whole k 0 - paid q ss near start μ k) i
-      (λ k l. get_or-set_other rs i k x 0 (λ z. omega arith) ∙ w.done k l)
-      (get_or-set_same rs i x 0 (let l = w.long in omega arith) ∙ e ∙ ap (λ r. r - paid q ss near start μ i) (w.rest i (omega arith)));
-  rest = λ k l. get_or-set_other rs i k x 0 (λ z. omega arith) ∙ w.rest k (omega arith);
-}
+  module _ (i : ℕ) (rs : List ℕ) (w : Paying q whole ss near start μ i rs) where
+    pub paying_step : (x : ℕ) → i < q.actions → x ≡ get_or rs i 0 - paid q ss near start μ i → Paying q whole ss near start μ (i + 1) (set rs i x)
+    paying_step x h e = record {
+      long = length-set rs i x ∙ w.long;
+      done = below_more (λ k. get_or (set rs i x) k 0 ≡ get_or whole k 0 - paid q ss near start μ k) i
+          (λ k l. get_or-set_other rs i k x 0 (λ z. omega arith) ∙ w.done k l)
+          (get_or-set_same rs i x 0 (let l = w.long in omega arith) ∙ e ∙ ap (λ r. r - paid q ss near start μ i) (w.rest i (omega arith) h));
+      rest = λ k l m. get_or-set_other rs i k x 0 (λ z. omega arith) ∙ w.rest k (omega arith) m;
+    }
 
-module _ (q : Question) (whole : List ℕ) (ss : List (Option ℕ)) (near start : List Bool) (μ i : ℕ) (rs : List ℕ) (few : q.actions ≤ 257) (end : q.actions ≤ i) (w : Paying q whole ss near start μ i rs) where
-  abbrev after : Crossing → ℕ
-  after c = c.left - charge_of μ c
+    abbrev others : List ℕ
+    others = drop q.actions whole
 
-  abbrev es : List Edges
-  es = edges_in q whole ss
+    -- those past the last action are as they were
+    pub paying_modest : q.actions ≤ i → Modest whole → Modest (rs ++ others)
+    paying_modest end m a = ⊎_elim
+        (λ h. let e = get_or_append_left rs others 0 a (let l = w.long in omega arith) ∙ w.done a (omega arith) in let b = m a in omega arith)
+        (λ h. let e = get_or-append_right rs others q.actions a 0 w.long h ∙ get_or-drop q.actions whole (a - q.actions) 0 in let z : q.actions + (a - q.actions) ≡ a = omega arith in let b = m (q.actions + (a - q.actions)) in omega arith)
+        (cases_lt a q.actions)
 
-  abbrev none : Edges
-  none = record { source = None; left = 0; reaches = [] }
+    abbrev after : Crossing → ℕ
+    after c = c.left - charge_of μ c
 
-  taken : length (take q.actions rs) ≡ q.actions
-  taken = length-take-le q.actions rs (let l = w.long in omega arith)
+    abbrev es : List Edges
+    es = edges_in q whole ss
 
-  crossings_long : length (crossings es near start) ≡ q.actions
-  crossings_long = length-map es (crossing near start) ∙ length_edges q whole ss 0 q.actions
+    abbrev none : Edges
+    none = record { source = None; left = 0; reaches = [] }
 
-  pub paying_end : take q.actions rs ≡ left_after μ (crossings es near start)
-  paying_end = ext_get_or 0 (take q.actions rs) (left_after μ (crossings es near start)) (taken ∙ sym (length-map (crossings es near start) after ∙ crossings_long)) each
-    where
-      each : (k : ℕ) → k < length (take q.actions rs) → get_or (take q.actions rs) k 0 ≡ get_or (left_after μ (crossings es near start)) k 0
-      each k h =
-          let t = taken in
-          let h' : k < q.actions = omega arith in
-          let l = length_edges q whole ss 0 q.actions in
-          get_or-take q.actions rs k 0 h' ∙ w.done k (omega arith)
-          ∙ sym (get_or-map after (crossings es near start) k (crossing near start none) 0 (let c = crossings_long in omega arith)
-          ∙ ap after (get_or-map (crossing near start) es k none (crossing near start none) (omega arith) ∙ ap (crossing near start) (edges_get q whole ss 0 q.actions k none h' ∙ ap (edges_at q whole ss) (let z : 0 + k ≡ k = omega arith in z))))
+    crossings_long : length (crossings es near start) ≡ q.actions
+    crossings_long = length-map es (crossing near start) ∙ length_edges q whole ss 0 q.actions
 
-pub paying_modest : (q : Question) (whole : List ℕ) (ss : List (Option ℕ)) (near start : List Bool) (μ i : ℕ) (rs : List ℕ) → Modest whole → Paying q whole ss near start μ i rs → Modest rs
-paying_modest q whole ss near start μ i rs m w a = ⊎_elim (λ h. let e = w.done a h in let b = m a in omega arith) (λ h. let e = w.rest a h in let b = m a in omega arith) (cases_lt a i)
+    pub paying_end : q.actions ≤ i → take q.actions (rs ++ others) ≡ left_after μ (crossings es near start)
+    paying_end end =
+        take-append-le q.actions rs others (let l = w.long in omega arith) ∙ take_all q.actions rs (let l = w.long in omega arith)
+        ∙ ext_get_or 0 rs (left_after μ (crossings es near start)) (w.long ∙ sym (length-map (crossings es near start) after ∙ crossings_long)) each
+      where
+        each : (k : ℕ) → k < length rs → get_or rs k 0 ≡ get_or (left_after μ (crossings es near start)) k 0
+        each k h =
+            let h' : k < q.actions = (let l = w.long in omega arith) in
+            let l = length_edges q whole ss 0 q.actions in
+            w.done k (omega arith)
+            ∙ sym (get_or-map after (crossings es near start) k (crossing near start none) 0 (let c = crossings_long in omega arith)
+            ∙ ap after (get_or-map (crossing near start) es k none (crossing near start none) (omega arith) ∙ ap (crossing near start) (edges_get q whole ss 0 q.actions k none h' ∙ ap (edges_at q whole ss) (let z : 0 + k ≡ k = omega arith in z))))
 
 -- ---- landmark records
 

@@ -1,16 +1,16 @@
 -- The chosen need, node by node: to keep the first of the largest values gives the need that is chosen from the list's end.
-use Rattle.std.proofs.Common.{◌≡◌, ℕ, zero, suc, ◌+◌, ◌-◌, ◌/◌, ◌^◌, ◌<◌, ◌≤◌, Bool, true, false, cond, not, ◌&&◌, ◌||◌, ltb, List, ◌∷◌, length, get_or, take, Some, None, Option, sym, refl, ap, ◌∙◌, ap₂, inl, inr, arith}
-use lib.Bits.{bit_and}
-use Rattle.std.proofs.lemmas.Nat.{and_mask}
+use Rattle.std.proofs.Common.{◌≡◌, ℕ, zero, suc, ◌+◌, ◌-◌, ◌<◌, ◌≤◌, Bool, true, false, cond, not, ◌&&◌, ◌||◌, ltb, List, ◌∷◌, length, get_or, take, Some, None, Option, sym, refl, ap, ◌∙◌, ap₂, inl, inr, ⊎_elim, arith}
 use Rattle.std.proofs.lemmas.List.{get_or-map, get_or-take, length-take-le}
-use Rattle.std.proofs.lemmas.Bool.{eq-eqb, ne_eqb, cond-true, cond-false}
+use Rattle.std.proofs.lemmas.Bool.{cases_lt, cond-true, cond-false}
 use Rattle.std.proofs.lemmas.Bool.Decides.{nat_tests}
 use Rattle.task.specs.States.{fact_holds}
+use Rattle.lmcut.specs.Bitwise.{BitStep}
 use Rattle.lmcut.specs.Drawn.{read_value, values_of}
 use Rattle.landmarks.specs.Laws.{In}
 use Rattle.lmcut.specs.Preferred.{below, first_largest}
 use Rattle.lmcut.specs.Questions.{bits_from}
 use Rattle.landmarks.specs.Rounds.{Value, above, value_at, beats, picked, chosen}
+use Rattle.lmcut.proofs.Bitwise.{Coming, Came, coming_start, coming_step, coming_end, upwards}
 
 -- ---- the order of nodes by value
 
@@ -131,13 +131,42 @@ module _ (N : ℕ) (xs : List ℕ) (w i : ℕ) (best : Option ℕ) (long : N ≤
         ∙ ap (λ ns. with_rest vs best (chosen vs ns)) (sym (bits_here ∙ cond-true _ _ _ e)) ∙ p.rest;
   }
 
--- ---- what the test of a bit tells
+-- ---- bit by bit
 
-pub bit_set : (w n : ℕ) → bit_and (w / 2 ^ n) 1 ≡ 1 → fact_holds w n ≡ true
-bit_set w n e = eq-eqb _ 1 (sym (and_mask (w / 2 ^ n) 1) ∙ e)
+pub record Taking (N : ℕ) (xs : List ℕ) (whole : ℕ) (best : Option ℕ) (w : ℕ) : Type 0 where
+  pub at : ℕ
+  pub coming : Coming whole at w
+  pub picking : Picking N xs whole at best
 
-pub bit_clear : (w n : ℕ) → (bit_and (w / 2 ^ n) 1 ≡ 1 → ⊥) → fact_holds w n ≡ false
-bit_clear w n e = ne_eqb _ 1 (λ z. e (and_mask (w / 2 ^ n) 1 ∙ z))
+picking_skip : (N : ℕ) (xs : List ℕ) (whole k n : ℕ) (best : Option ℕ) → N ≤ length xs → k ≤ n → n ≤ N - 1 → ((m : ℕ) → k ≤ m → m < n → fact_holds whole m ≡ false) → Picking N xs whole k best → Picking N xs whole n best
+picking_skip N xs whole k n best long h l none p = upwards (λ m. Picking N xs whole m best) k n h (λ m x y t. picking_not N xs whole m best long (omega arith) t (none m x y)) p
+
+pub taking_start : (N : ℕ) (xs : List ℕ) (whole w : ℕ) → w ≡ whole → Taking N xs whole None w
+taking_start N xs whole w e = let z : N - 1 - 0 ≡ N - 1 = omega arith in
+    record { at = 0; coming = coming_start whole w e; picking = record { before = tt; rest = ap (λ k. chosen (values_of N xs) (bits_from whole 0 k)) z } }
+
+module _ (N : ℕ) (xs : List ℕ) (whole : ℕ) (best : Option ℕ) (w : ℕ) (long : N ≤ length xs) (inside : (n : ℕ) → fact_holds whole n ≡ true → n + 1 < N) (t : Taking N xs whole best w) where
+  abbrev came : (n v : ℕ) → BitStep w (Some n) v → Came whole t.at n v
+  came n v s = coming_step whole t.at w n v t.coming s
+
+  pub taking_inside : (n v : ℕ) → BitStep w (Some n) v → n + 1 < N
+  taking_inside n v s = inside n (came n v s).set
+
+  there : (n v : ℕ) → BitStep w (Some n) v → Picking N xs whole n best
+  there n v s = let l = taking_inside n v s in picking_skip N xs whole t.at n best long (came n v s).from (omega arith) (came n v s).none t.picking
+
+  pub taking_below : (n v : ℕ) → BitStep w (Some n) v → below best n
+  taking_below n v s = (there n v s).before
+
+  pub taking_step : (n v : ℕ) → BitStep w (Some n) v → Taking N xs whole (first_largest xs best n) v
+  taking_step n v s = let l = taking_inside n v s in
+      record { at = n + 1; coming = (came n v s).rest; picking = picking_so N xs whole n best long (omega arith) (there n v s) (came n v s).set }
+
+  pub taking_end : (v : ℕ) → BitStep w None v → best ≡ chosen (values_of N xs) (bits_from whole 0 (N - 1))
+  taking_end v s = ⊎_elim
+      (λ h. picking_end N xs whole best (N - 1) (omega arith) (picking_skip N xs whole t.at (N - 1) best long (omega arith) (omega arith) (λ m x y. coming_end whole t.at w v t.coming s m x) t.picking))
+      (λ h. picking_end N xs whole best t.at h t.picking)
+      (cases_lt t.at (N - 1))
 
 -- ---- chosen needs are nodes
 

@@ -1,5 +1,6 @@
 -- What a prepared question's words and lists hold: bits of words, the needs and reaches of its actions, and their loads.
 use Rattle.std.proofs.Common.{◌≡◌, ℕ, zero, suc, ◌+◌, ◌/◌, ◌%◌, ◌^◌, ◌<◌, ◌≤◌, max, Bool, true, false, cond, not, ◌&&◌, ◌||◌, eqb, ◌⊎◌, List, [], ◌∷◌, map, length, get_or, take, drop, Some, None, Option, sym, refl, ap, ◌∙◌, subst, ap₂, inl, inr, ⊎_elim, div-le_self, arith}
+use Rattle.std.proofs.lemmas.Option.{same_Some, none-some}
 use lib.Bits.{bit_and, bit_or, bit_xor, or_disjoint}
 use Rattle.std.proofs.lemmas.Nat.{pow_pos, and_shr, and_mod, shr-shr, shr_below, pow_below}
 use Rattle.std.proofs.lemmas.List.{get_or-drop, drop-drop, get_or-map, get_or-take, get_or_past, length-map, length-take-le}
@@ -14,7 +15,7 @@ use Rattle.lmcut.specs.Drawn.{read_value}
 use Rattle.lmcut.specs.Valued.{infinite, needs_at, loads}
 use Rattle.lmcut.specs.declared.question.Question.{Question}
 use Rattle.lmcut.specs.declared.question.Edge.{Edge}
-use Rattle.landmarks.proofs.Orders.{some_same, some_none, max_is, larger_left, larger_right}
+use Rattle.landmarks.proofs.Orders.{max_is, larger_left, larger_right}
 use Rattle.landmarks.proofs.Sweeps.{largest_high}
 
 -- ---- bits
@@ -25,7 +26,7 @@ and_bit x y (inl a) (inr b) = ap₂ (λ m n. eqb (bit_and m n) 1) a b ∙ sym (a
 and_bit x y (inr a) (inl b) = ap₂ (λ m n. eqb (bit_and m n) 1) a b ∙ sym (ap₂ (λ m n. eqb m 1 && eqb n 1) a b)
 and_bit x y (inr a) (inr b) = ap₂ (λ m n. eqb (bit_and m n) 1) a b ∙ sym (ap₂ (λ m n. eqb m 1 && eqb n 1) a b)
 
-holds_and : (a b k : ℕ) → fact_holds (bit_and a b) k ≡ (fact_holds a k && fact_holds b k)
+pub holds_and : (a b k : ℕ) → fact_holds (bit_and a b) k ≡ (fact_holds a k && fact_holds b k)
 holds_and a b k =
     ap (λ x. eqb (x % 2) 1) (and_shr a b k) ∙ ap (λ x. eqb x 1) (and_mod (a / 2 ^ k) (b / 2 ^ k) 1)
     ∙ and_bit (a / 2 ^ k % 2) (b / 2 ^ k % 2) (bit_small (a / 2 ^ k)) (bit_small (b / 2 ^ k))
@@ -37,7 +38,7 @@ no_bit n = ne_eqb (0 / 2 ^ n % 2) 1 (λ e. let d = div-le_self 0 (2 ^ n) in omeg
 pub apart_at : (x y m : ℕ) → bit_and x y ≡ 0 → fact_holds x m ≡ true → fact_holds y m ≡ false
 apart_at x y m e h = sym (ap (λ b. b && fact_holds y m) h) ∙ sym (holds_and x y m) ∙ ap (λ z. fact_holds z m) e ∙ no_bit m
 
-no_bits : (k z : ℕ) → z < 2 ^ k → ((m : ℕ) → fact_holds z m ≡ false) → z ≡ 0
+pub no_bits : (k z : ℕ) → z < 2 ^ k → ((m : ℕ) → fact_holds z m ≡ false) → z ≡ 0
 no_bits zero z l h = omega arith
 no_bits (suc k) z l h =
     let p : suc k ≡ k + 1 = omega arith in
@@ -46,7 +47,7 @@ no_bits (suc k) z l h =
     let low : z % 2 ≡ 1 → ⊥ = λ e. let one : z / 2 ^ 0 ≡ z = omega arith in eqb-false (z / 2 ^ 0 % 2) 1 (h 0) (ap (λ x. x % 2) one ∙ e) in
     ⊎_elim (λ e. omega arith) (λ e. absurd (low e)) (bit_small z)
 
-below_power : (n : ℕ) → n < 2 ^ n
+pub below_power : (n : ℕ) → n < 2 ^ n
 below_power zero = omega arith
 below_power (suc n) = let h = below_power n in let p = pow_below n (suc n) (omega arith) in omega arith
 
@@ -202,7 +203,7 @@ pub told_none : (x : ℕ) → x ≡ infinite → read_value x ≡ None
 told_none x e = cond-true (eqb x infinite) None (Some x) (eq-eqb x infinite e)
 
 pub told_back : (x v : ℕ) → read_value x ≡ Some v → (x ≡ v) × (x ≡ infinite → ⊥)
-told_back x v e = let ne : x ≡ infinite → ⊥ = λ i. some_none v (sym e ∙ told_none x i) in (some_same x v (sym (told_some x ne) ∙ e), ne)
+told_back x v e = let ne : x ≡ infinite → ⊥ = λ i. none-some v (sym (told_none x i) ∙ e) in (same_Some x v (sym (told_some x ne) ∙ e), ne)
 
 abbrev pub tells_all : Question → List ℕ → List Value
 tells_all q xs = map read_value (take q.nodes xs)

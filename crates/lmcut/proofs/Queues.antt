@@ -1,25 +1,26 @@
 -- The heap of the nodes that wait: what each call does to it, and that its first entry is of lowest value.
-use Rattle.std.proofs.Common.{◌≡◌, ℕ, ◌+◌, ◌-◌, ◌^◌, ◌<◌, ◌≤◌, true, false, eqb, ◌⊎◌, List, [], ◌∷◌, map, length, get_or, take, set, sum_by, Ordering, Less, Equal, Greater, sym, refl, ap, ◌∙◌, subst, inl, inr, ⊎_elim, arith}
+use Rattle.std.proofs.Common.{◌≡◌, ℕ, ◌+◌, ◌-◌, ◌*◌, ◌%◌, ◌^◌, ◌<◌, ◌≤◌, true, false, eqb, ◌⊎◌, List, [], ◌∷◌, map, length, get_or, take, set, sum_by, Ordering, Less, Equal, Greater, sym, refl, ap, ◌∙◌, subst, ap₂, inl, inr, ⊎_elim, arith}
 use lib.Bits.{bit_and, bit_xor}
-use Rattle.std.proofs.ByRecursion.{all-has, all_has_itself, All-weaker, All-map}
+use mathlib.Core.Logic.{∥∥₁_elim, ∥∥₁_map}
+use Rattle.std.proofs.Props.{props}
+use Rattle.std.proofs.lemmas.Nat.{one_shl}
+use Rattle.std.proofs.lemmas.List.Elements.{All-contains, All-contains_itself, All-map, All-weaker, recursion_from_All}
 use Rattle.std.proofs.lemmas.List.{get_or-set_same, get_or-set_other, length-map}
 use Rattle.std.proofs.lemmas.List.Sums.{sum_by-cons, get_or-le-sum_by}
 use Rattle.std.proofs.lemmas.Bool.{cases_eq, eq-eqb, ne_eqb, cond-true, cond-false, true≢false}
 use Rattle.std.specs.Cmp.{IsTotalOrder, nat_cmp_total, on_total, tied_itself as tied_with_itself}
 use Rattle.std.specs.Ordering.{is_eq, is_lt, ordering_reverse, ordering_then, nat_cmp, on}
-use Rattle.std.specs.List.{ContainsAt as Has, AllByRecursion}
-use Rattle.order.specs.declared.Heap.{Heap}
-use Rattle.order.specs.Laws.{held, room, First, Lawful, Lowered, Popped, Pushed, Unmet}
+use Rattle.std.specs.List.{AllByRecursion, Contains}
+use Rattle.order.specs.Laws.{held, room, First, Lowered, Popped, Pushed, Same, Unmet}
 use Rattle.order.specs.Ranks.{AtMost}
 use Rattle.order.proofs.Fields.{unsigned_less, unsigned_tied, fields_at_most, fields_tied}
 use Rattle.order.proofs.Members.{has_here, has_there, has_cons, pushed_has_new, pushed_has, pushed_only, pushed_sum, popped_has, popped_only, popped_sum, lowered_has_new, lowered_has, lowered_only, lowered_was, lowered_sum, length_held, first_at_most}
 use Rattle.tables.specs.Rules.{Once}
 use Rattle.task.specs.States.{fact_holds}
 use Rattle.lmcut.specs.Valued.{infinite}
-use Rattle.lmcut.specs.Queued.{orders, by_node, entry, named, Waits, Queued, Requeued, Blank}
-use Rattle.lmcut.specs.declared.values.Node.{Node}
+use Rattle.lmcut.specs.Queued.{NodeHeap, orders, by_node, entry, named, Waits, NoneWaits, Taken, Queued, Requeued}
+use Rattle.lmcut.specs.declared.node.Node.{Node}
 use Rattle.lmcut.proofs.Prepared.{dropped_at, dropped_other}
-use Rattle.lmcut.proofs.Settling.{Lowest, NoneLow}
 use Rattle.landmarks.proofs.Sweeps.{pigeonhole}
 
 -- ---- the order of nodes
@@ -65,26 +66,26 @@ named_own n z e = cond-true (eqb z.number n) 1 0 (eq-eqb z.number n e)
 named_other : (n : ℕ) (z : Node) → (z.number ≡ n → ⊥) → named n z ≡ 0
 named_other n z ne = cond-false (eqb z.number n) 1 0 (ne_eqb z.number n ne)
 
-count_has : (n : ℕ) (xs : List Node) (z : Node) → Has xs z → z.number ≡ n → 1 ≤ sum_by (named n) xs
+count_has : (n : ℕ) (xs : List Node) (z : Node) → Contains xs z → z.number ≡ n → 1 ≤ sum_by (named n) xs
 count_has n xs z h e =
     let l = get_or-le-sum_by (named n) xs h.0 z h.1 in
-    let s : named n (get_or xs h.0 z) ≡ 1 = ap (named n) (h.2 z) ∙ named_own n z e in omega arith
+    let s : named n (get_or xs h.0 z) ≡ 1 = ap (named n) h.2 ∙ named_own n z e in omega arith
 
-count_none : (n : ℕ) (xs : List Node) → ((z : Node) → Has xs z → z.number ≡ n → ⊥) → sum_by (named n) xs ≡ 0
+count_none : (n : ℕ) (xs : List Node) → ((z : Node) → Contains xs z → z.number ≡ n → ⊥) → sum_by (named n) xs ≡ 0
 count_none n [] h = refl
 count_none n (x ∷ xs) h =
     let a = sum_by-cons (named n) x xs in
     let b = named_other n x (h x (has_here x xs)) in
     let c = count_none n xs (λ z i. h z (has_there x xs z i)) in omega arith
 
-one_only : (n : ℕ) (xs : List Node) → sum_by (named n) xs ≤ 1 → (y z : Node) → Has xs y → Has xs z → y.number ≡ n → z.number ≡ n → y ≡ z
+one_only : (n : ℕ) (xs : List Node) → sum_by (named n) xs ≤ 1 → (y z : Node) → Contains xs y → Contains xs z → y.number ≡ n → z.number ≡ n → y ≡ z
 one_only n [] l y z h i a b = absurd (let k = h.1 in omega arith)
 one_only n (x ∷ xs) l y z h i a b = go (one_only n xs (let s = sum_by-cons (named n) x xs in omega arith) y z) (has_cons x xs y h) (has_cons x xs z i)
   where
-    twice : (v : Node) → x.number ≡ n → Has xs v → v.number ≡ n → ⊥
+    twice : (v : Node) → x.number ≡ n → Contains xs v → v.number ≡ n → ⊥
     twice v e j f = let s = sum_by-cons (named n) x xs in let o = named_own n x e in let c = count_has n xs v j f in omega arith
 
-    go : (Has xs y → Has xs z → y.number ≡ n → z.number ≡ n → y ≡ z) → (y ≡ x) ⊎ Has xs y → (z ≡ x) ⊎ Has xs z → y ≡ z
+    go : (Contains xs y → Contains xs z → y.number ≡ n → z.number ≡ n → y ≡ z) → (y ≡ x) ⊎ Contains xs y → (z ≡ x) ⊎ Contains xs z → y ≡ z
     go rest (inl p) (inl r) = p ∙ sym r
     go rest (inl p) (inr j) = absurd (twice z (ap (λ (v : Node). v.number) (sym p) ∙ a) j b)
     go rest (inr j) (inl r) = absurd (twice y (ap (λ (v : Node). v.number) (sym r) ∙ b) j a)
@@ -120,32 +121,42 @@ entry_same n a b e = ap (λ v. entry v n) e
 
 -- ---- no entry
 
-pub queued_none_yet : (xs : List ℕ) (w nodes : ℕ) (h : Heap Node) → nodes ≤ 129 → Blank xs → Lawful orders h → h.len ≡ 0 → room h ≡ 129 → Queued xs w nodes h
-queued_none_yet xs w nodes h few b l z r =
+pub queued_none_yet : (xs : List ℕ) (w nodes : ℕ) (h : NodeHeap) → ((n : ℕ) → n + 1 < nodes → fact_holds w n ≡ true → get_or xs n 0 ≡ infinite) → h.len ≡ 0 → room h ≡ 129 → Queued xs w nodes h
+queued_none_yet xs w nodes h b z r =
     record {
-      lawful = l;
       roomy = r;
       once = λ n. subst (λ k. sum_by (named n) (take k h.entries.now) ≤ 1) (sym z) (omega arith);
-      only = λ v m. absurd (let k = length_held h l in let i = m.1 in omega arith);
-      each = λ n t. absurd (t.finite (b n (let i = t.inside in omega arith)));
+      only = λ v m. absurd (let k = length_held h in let i = m.1 in omega arith);
+      each = λ n t. absurd (t.finite (b n t.inside t.waits));
     }
 
-module _ (xs : List ℕ) (w nodes : ℕ) (h : Heap Node) (qd : Queued xs w nodes h) where
+module _ (xs : List ℕ) (w nodes : ℕ) (h : NodeHeap) (qd : Queued xs w nodes h) where
   pub queued_few : nodes ≤ 129 → 1 ≤ nodes → h.len < room h
   queued_few few some =
-      let below = All-map (λ n. n < nodes - 1) (λ (z : Node). z.number) (held h)
-      (All-weaker (Has (held h)) (λ z. z.number < nodes - 1) (λ z i. let t = (qd.only z i).0.inside in omega arith) (held h) (all_has_itself (held h))) in
+      let below = recursion_from_All (λ n. n < nodes - 1) (numbers (held h))
+      (All-map (λ n. n < nodes - 1) (λ (z : Node). z.number) (held h)
+      (All-weaker (Contains (held h)) (λ z. z.number < nodes - 1) (λ z i. let t = (qd.only z i).0.inside in omega arith) (held h) (All-contains_itself (held h)))) in
       let p = pigeonhole (nodes - 1) (numbers (held h)) (once_numbers (held h) qd.once) below in
       let l = length-map (held h) (λ (z : Node). z.number) in
-      let k = length_held h qd.lawful in
+      let k = length_held h in
       let r = qd.roomy in omega arith
 
   -- ---- the end
 
-  pub queued_none : h.len ≡ 0 → NoneLow xs w nodes
-  queued_none z n l t = ⊎_elim (λ e. omega arith)
-      (λ ne. let i = (qd.each n (record { inside = l; waits = t; finite = ne })).1 in let k = length_held h qd.lawful in absurd (omega arith))
-      (cases_eq (get_or xs n 0) infinite)
+  pub queued_none : h.len ≡ 0 → NoneWaits xs w nodes
+  queued_none z n t = let i = (qd.each n t).1 in let k = length_held h in omega arith
+
+  -- ---- nothing is altered
+
+  pub queued_same : (k : NodeHeap) → Same h k → Queued xs w nodes k
+  queued_same k s =
+      let e : held k ≡ held h = ap₂ take s.0 s.1 in
+      record {
+        roomy = ap length s.1 ∙ qd.roomy;
+        once = λ n. subst (λ zs. sum_by (named n) zs ≤ 1) (sym e) (qd.once n);
+        only = λ z i. qd.only z (subst (λ zs. Contains zs z) e i);
+        each = λ n t. subst (λ zs. Contains zs (entry (get_or xs n 0) n)) (sym e) (qd.each n t);
+      }
 
   -- ---- a node that does not wait
 
@@ -162,12 +173,11 @@ module _ (xs : List ℕ) (w nodes : ℕ) (h : Heap Node) (qd : Queued xs w nodes
     pub queued_apart : (n + 1 < nodes → fact_holds w n ≡ true → ⊥) → Queued (set xs n y) w nodes h
     queued_apart free =
         record {
-          lawful = qd.lawful;
           roomy = qd.roomy;
           once = qd.once;
           only = λ z i. let o = qd.only z i in only_other z (λ e. free (subst (λ m. m + 1 < nodes) e o.0.inside) (ap (fact_holds w) (sym e) ∙ o.0.waits)) o;
           each = λ m t. let ne : m ≡ n → ⊥ = λ e. free (subst (λ k. k + 1 < nodes) e t.inside) (ap (fact_holds w) (sym e) ∙ t.waits) in
-              subst (Has (held h)) (entry_same m (get_or xs m 0) (get_or (set xs n y) m 0) (sym (other_at m ne))) (qd.each m (wait_back xs w nodes (set xs n y) m (other_at m ne) t));
+              subst (Contains (held h)) (entry_same m (get_or xs m 0) (get_or (set xs n y) m 0) (sym (other_at m ne))) (qd.each m (wait_back xs w nodes (set xs n y) m (other_at m ne) t));
         }
 
     module _ (l : n < length xs) (inner : n + 1 < nodes) (opens : fact_holds w n ≡ true) (low : y < infinite) where
@@ -182,17 +192,16 @@ module _ (xs : List ℕ) (w nodes : ℕ) (h : Heap Node) (qd : Queued xs w nodes
 
       -- ---- a new entry
 
-      pub queued_push : (k : Heap Node) → get_or xs n 0 ≡ infinite → Lawful orders k → Pushed h (entry y n) k → Queued (set xs n y) w nodes k
-      queued_push k inf law p =
+      pub queued_push : (k : NodeHeap) → get_or xs n 0 ≡ infinite → Pushed h (entry y n) k → Queued (set xs n y) w nodes k
+      queued_push k inf p =
           record {
-            lawful = law;
             roomy = p.same_room ∙ qd.roomy;
             once = once;
             only = λ z i. ⊎_elim (only_here z) (λ j. only_other z (absent z j) (qd.only z j)) (pushed_only p z i);
             each = each;
           }
         where
-          absent : (z : Node) → Has (held h) z → z.number ≡ n → ⊥
+          absent : (z : Node) → Contains (held h) z → z.number ≡ n → ⊥
           absent z i e = (qd.only z i).0.finite (ap (λ m. get_or xs m 0) e ∙ inf)
 
           once : (m : ℕ) → sum_by (named m) (held k) ≤ 1
@@ -203,10 +212,10 @@ module _ (xs : List ℕ) (w nodes : ℕ) (h : Heap Node) (qd : Queued xs w nodes
               (λ ne. let a = named_other m (entry y n) ne in let b = qd.once m in omega arith)
               (cases_eq n m)
 
-          each : (m : ℕ) → Waits (set xs n y) w nodes m → Has (held k) (entry (get_or (set xs n y) m 0) m)
+          each : (m : ℕ) → Waits (set xs n y) w nodes m → Contains (held k) (entry (get_or (set xs n y) m 0) m)
           each m t = ⊎_elim
-              (λ e. subst (λ j. Has (held k) (entry (get_or (set xs n y) j 0) j)) (sym e) (subst (Has (held k)) (entry_same n y (get_or (set xs n y) n 0) (sym here_at)) (pushed_has_new p)))
-              (λ ne. subst (Has (held k)) (entry_same m (get_or xs m 0) (get_or (set xs n y) m 0) (sym (other_at m ne))) (pushed_has p (entry (get_or xs m 0) m) (qd.each m (wait_back xs w nodes (set xs n y) m (other_at m ne) t))))
+              (λ e. subst (λ j. Contains (held k) (entry (get_or (set xs n y) j 0) j)) (sym e) (subst (Contains (held k)) (entry_same n y (get_or (set xs n y) n 0) (sym here_at)) (pushed_has_new p)))
+              (λ ne. subst (Contains (held k)) (entry_same m (get_or xs m 0) (get_or (set xs n y) m 0) (sym (other_at m ne))) (pushed_has p (entry (get_or xs m 0) m) (qd.each m (wait_back xs w nodes (set xs n y) m (other_at m ne) t))))
               (cases_eq m n)
 
       -- ---- a lower entry
@@ -216,13 +225,12 @@ module _ (xs : List ℕ) (w nodes : ℕ) (h : Heap Node) (qd : Queued xs w nodes
         queued_met (inl f) = not_above (entry y n) (entry (get_or xs n 0) n) less (f by_node)
         queued_met (inr f) =
             let i = qd.each n (record { inside = inner; waits = opens; finite = fin }) in
-            let e = all-has (λ z. is_eq (orders z (entry (get_or xs n 0) n)) ≡ false) (held h) (entry (get_or xs n 0) n) (f by_node) i in
+            let e = All-contains (λ z. is_eq (orders z (entry (get_or xs n 0) n)) ≡ false) (held h) (entry (get_or xs n 0) n) (f by_node) i in
             true≢false (sym (ap is_eq (tied_itself (entry (get_or xs n 0) n))) ∙ e)
 
-        pub queued_lower : (k : Heap Node) → Lawful orders k → Lowered orders h (entry (get_or xs n 0) n) (entry y n) k → Queued (set xs n y) w nodes k
-        queued_lower k law p =
+        pub queued_lower : (k : NodeHeap) → Lowered orders h (entry (get_or xs n 0) n) (entry y n) k → Queued (set xs n y) w nodes k
+        queued_lower k p =
             record {
-              lawful = law;
               roomy = p.same_room ∙ qd.roomy;
               once = once;
               only = λ z i. ⊎_elim (only_here z) (λ j. only_was z i j) (lowered_only p z i);
@@ -235,51 +243,45 @@ module _ (xs : List ℕ) (w nodes : ℕ) (h : Heap Node) (qd : Queued xs w nodes
             once : (m : ℕ) → sum_by (named m) (held k) ≤ 1
             once m = let s = lowered_sum p (named m) in let a = ap (named m) was in let b = qd.once m in omega arith
 
-            only_was : (z : Node) → Has (held k) z → Has (held h) z → Waits (set xs n y) w nodes z.number × (z.value ≡ get_or (set xs n y) z.number 0)
+            only_was : (z : Node) → Contains (held k) z → Contains (held h) z → Waits (set xs n y) w nodes z.number × (z.value ≡ get_or (set xs n y) z.number 0)
             only_was z i j = ⊎_elim
                 (λ e. only_here z (one_only n (held k) (once n) z (entry y n) i (lowered_has_new p) e refl))
                 (λ ne. only_other z ne (qd.only z j))
                 (cases_eq z.number n)
 
-            each : (m : ℕ) → Waits (set xs n y) w nodes m → Has (held k) (entry (get_or (set xs n y) m 0) m)
+            each : (m : ℕ) → Waits (set xs n y) w nodes m → Contains (held k) (entry (get_or (set xs n y) m 0) m)
             each m t = ⊎_elim
-                (λ e. subst (λ j. Has (held k) (entry (get_or (set xs n y) j 0) j)) (sym e) (subst (Has (held k)) (entry_same n y (get_or (set xs n y) n 0) (sym here_at)) (lowered_has_new p)))
-                (λ ne. subst (Has (held k)) (entry_same m (get_or xs m 0) (get_or (set xs n y) m 0) (sym (other_at m ne)))
+                (λ e. subst (λ j. Contains (held k) (entry (get_or (set xs n y) j 0) j)) (sym e) (subst (Contains (held k)) (entry_same n y (get_or (set xs n y) n 0) (sym here_at)) (lowered_has_new p)))
+                (λ ne. subst (Contains (held k)) (entry_same m (get_or xs m 0) (get_or (set xs n y) m 0) (sym (other_at m ne)))
                 (⊎_elim (λ s. absurd (ne (ap (λ (v : Node). v.number) (s ∙ was)))) (λ i. i)
                 (lowered_has p (entry (get_or xs m 0) m) (qd.each m (wait_back xs w nodes (set xs n y) m (other_at m ne) t)))))
                 (cases_eq m n)
 
-      pub queued_in : (k : Heap Node) → nodes ≤ 129 → y < get_or xs n 0 → Lawful orders k → Requeued h n (get_or xs n 0) y k → Queued (set xs n y) w nodes k
-      queued_in k few less law r = ⊎_elim
-          (λ e. queued_push k e law (r.fresh e (queued_few few (omega arith))))
-          (λ ne. queued_lower ne less k law (r.again ne (queued_met ne less)))
+      pub queued_in : (k : NodeHeap) → nodes ≤ 129 → y < get_or xs n 0 → Requeued h n (get_or xs n 0) y k → Queued (set xs n y) w nodes k
+      queued_in k few less r = ⊎_elim
+          (λ e. queued_push k e (r.fresh e (queued_few few (omega arith))))
+          (λ ne. queued_lower ne less k (r.again ne (queued_met ne less)))
           (cases_eq (get_or xs n 0) infinite)
 
   -- ---- the first entry
 
   module _ (x : Node) (first : First orders h x) where
-    pub queued_value : x.value ≡ get_or xs x.number 0
-    queued_value = (qd.only x first.has).1
+    pub queued_inside : nodes ≤ 129 → x.number < 128
+    queued_inside few = let i = (qd.only x first.has).0.inside in omega arith
 
-    pub queued_lowest : get_or xs x.number 0 ≤ infinite → Lowest xs w nodes x.number
-    queued_lowest fits =
+    pub queued_taken : Taken xs w nodes x (bit_xor w (bit_and w (2 ^ x.number)))
+    queued_taken =
         let o = qd.only x first.has in
         record {
-          inside = o.0.inside;
-          waits = o.0.waits;
-          finite = o.0.finite;
-          least = λ n l t. ⊎_elim
-              (λ e. omega arith)
-              (λ ne. let i = qd.each n (record { inside = l; waits = t; finite = ne }) in
-              let v = lower_value x (entry (get_or xs n 0) n) (first_at_most first by_node (entry (get_or xs n 0) n) i) in
-              let e = o.1 in omega arith)
-              (cases_eq (get_or xs n 0) infinite);
+          waits = o.0;
+          value = o.1;
+          least = λ n t. lower_value x (entry (get_or xs n 0) n) (first_at_most first by_node (entry (get_or xs n 0) n) (qd.each n t));
+          gone = refl;
         }
 
-    pub queued_pop : (k : Heap Node) → Lawful orders k → Popped h x k → Queued xs (bit_xor w (bit_and w (2 ^ x.number))) nodes k
-    queued_pop k law p =
+    pub queued_pop : (k : NodeHeap) → Popped h x k → Queued xs (bit_xor w (bit_and w (2 ^ x.number))) nodes k
+    queued_pop k p =
         record {
-          lawful = law;
           roomy = p.same_room ∙ qd.roomy;
           once = λ n. let s = popped_sum p (named n) in let b = qd.once n in omega arith;
           only = λ z i. let o = qd.only z (popped_has p z i) in (record { inside = o.0.inside; waits = dropped_other w x.number z.number (gone z i) ∙ o.0.waits; finite = o.0.finite }, o.1);
@@ -289,9 +291,35 @@ module _ (xs : List ℕ) (w nodes : ℕ) (h : Heap Node) (qd : Queued xs w nodes
               ⊎_elim (λ s. absurd (ne (ap (λ (v : Node). v.number) s))) (λ j. j) (popped_only p (entry (get_or xs n 0) n) i);
         }
       where
-        gone : (z : Node) → Has (held k) z → z.number ≡ x.number → ⊥
+        gone : (z : Node) → Contains (held k) z → z.number ≡ x.number → ⊥
         gone z i e =
             let s = popped_sum p (named x.number) in
             let a = named_own x.number x refl in
             let b = count_has x.number (held k) z i e in
             let c = qd.once x.number in omega arith
+
+-- ---- the first entry leaves the heap, and its node the open nodes
+
+-- a word without a bit, as the code takes it out
+abbrev pub without : ℕ → ℕ → ℕ
+without w p = bit_xor w (bit_and w ((1 * 2 ^ p) % 2 ^ 128))
+
+module _ (xs : List ℕ) (w nodes : ℕ) (h : NodeHeap) (few : nodes ≤ 129) (some : ∥ Queued xs w nodes h ∥₁) where
+  pub heap_ended : (k : NodeHeap) → Same h k → ∥ Queued xs w nodes k ∥₁
+  heap_ended k s = ∥∥₁_map some (λ qd. queued_same xs w nodes h qd k s)
+
+  pub heap_none : h.len ≡ 0 → NoneWaits xs w nodes
+  heap_none z n t = ∥∥₁_elim some (hlevel props) (λ qd. queued_none xs w nodes h qd z n t)
+
+  module _ (x : Node) (first : First orders h x) where
+    pub lowest_inside : x.number < 128
+    lowest_inside = ∥∥₁_elim some (hlevel props) (λ qd. queued_inside xs w nodes h qd x first few)
+
+    gone : (1 * 2 ^ x.number) % 2 ^ 128 ≡ 2 ^ x.number
+    gone = one_shl x.number 128 lowest_inside
+
+    pub lowest_taken : Taken xs w nodes x (without w x.number)
+    lowest_taken = subst (λ y. Taken xs w nodes x (bit_xor w (bit_and w y))) (sym gone) (∥∥₁_elim some (hlevel props) (λ qd. queued_taken xs w nodes h qd x first))
+
+    pub lowest_queued : (k : NodeHeap) → Popped h x k → ∥ Queued xs (without w x.number) nodes k ∥₁
+    lowest_queued k p = subst (λ y. ∥ Queued xs (bit_xor w (bit_and w y)) nodes k ∥₁) (sym gone) (∥∥₁_map some (λ qd. queued_pop xs w nodes h qd x first k p))

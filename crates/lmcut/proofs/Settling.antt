@@ -1,10 +1,11 @@
 -- Finding values lowest first: what is known while nodes leave the open ones, and that what it ends with is justified.
-use Rattle.std.proofs.Common.{◌≡◌, ℕ, suc, ◌+◌, ◌-◌, ◌*◌, ◌^◌, ◌<◌, ◌≤◌, Bool, true, false, cond, ◌&&◌, eqb, ◌⊎◌, List, [], ◌∷◌, length, get_or, take, Some, None, sym, refl, ap, ◌∙◌, subst, inl, inr, ⊎_elim, arith}
+use Rattle.std.proofs.Common.{◌≡◌, ℕ, zero, suc, ◌+◌, ◌-◌, ◌*◌, ◌^◌, ◌<◌, ◌≤◌, Bool, true, false, cond, not, ◌&&◌, eqb, ltb, ◌⊎◌, List, [], ◌∷◌, length, get_or, take, Some, None, sym, refl, ap, ◌∙◌, subst, inl, inr, ⊎_elim, arith}
+use Rattle.std.proofs.lemmas.Option.{none-some}
 use lib.Bits.{bit_and, bit_xor}
 use Rattle.std.specs.List.{AllByRecursion}
 use Rattle.std.proofs.lemmas.Nat.{mul-le}
 use Rattle.std.proofs.lemmas.List.{get_or-take, get_or_past, length-take-le}
-use Rattle.std.proofs.lemmas.Bool.{cases_lt, cases_eq, cases_Bool, eqb-true, eq-eqb, ne_eqb, lt-ltb, ltb-true, cond-true, cond-false, and_parts, and_from, true≢false, false≢true}
+use Rattle.std.proofs.lemmas.Bool.{cases_lt, cases_eq, cases_Bool, eqb-true, eq-eqb, ne_eqb, lt-ltb, ltb-true, cond-true, cond-false, cond_both, and_parts, and_from, true≢false, false≢true}
 use Rattle.tables.specs.Rules.{Once}
 use Rattle.task.specs.States.{fact_holds}
 use Rattle.landmarks.specs.Relaxed.{Reach}
@@ -12,10 +13,10 @@ use Rattle.lmcut.specs.Questions.{edge_at, reach_of, relaxed_of, Fits}
 use Rattle.landmarks.specs.Rounds.{plus, weight, Loaded, value_at, largest, in_zone}
 use Rattle.landmarks.specs.Laws.{In, ◌≼◌, Supported, Justified}
 use Rattle.lmcut.specs.Drawn.{read_value, Modest}
-use Rattle.lmcut.specs.Valued.{infinite, most_weight, edge_weight, needs_at, loads, fires_at, Came, ReachedTo, Begun, AllOpen, Valued}
+use Rattle.lmcut.specs.Valued.{infinite, most_weight, edge_weight, needs_at, loads, ready_at, fires_at, Came, ReachedTo, Begun, Opened, Valued}
 use Rattle.lmcut.specs.declared.question.Question.{Question}
 use Rattle.lmcut.specs.declared.question.Edge.{Edge}
-use Rattle.landmarks.proofs.Orders.{in_all, some_none}
+use Rattle.landmarks.proofs.Orders.{in_all}
 use Rattle.landmarks.proofs.Sweeps.{pigeonhole, justified_is}
 use Rattle.lmcut.proofs.Offers.{weight_small}
 use Rattle.lmcut.proofs.Prepared.{apart, apart_at, dropped_at, dropped_other, bits_in, in_bits, reaches_in, in_reaches, load_at, loads_in, in_loads, told_some, told_none, told_back, tells_all, tells_long, tells_at, tells_past, peak, peak_same, peak_most, peak_least, largest_peak, largest_none}
@@ -188,7 +189,7 @@ module _ (q : Question) (rs xs : List ℕ) (w top p : ℕ) (g : Going q rs xs w 
   next_word = bit_xor w (bit_and w (2 ^ p))
 
   abbrev next-due : ℕ → Bool
-  next-due = fires_at q next_word false p
+  next-due = fires_at q next_word p
 
   abbrev next-rank : ℕ → ℕ
   next-rank n = cond (eqb n p) (length g.done) (g.rank n)
@@ -307,45 +308,96 @@ next_most q rs xs w top p f g l = let t = top_most q rs xs w top none_due f g in
 
 -- ---- the start
 
-pub going_start : (q : Question) (rs xs : List ℕ) (w : ℕ) → Fits q → Begun q xs → AllOpen (q.nodes - 1) w → Going q rs xs w 0 (fires_at q w true 0)
-going_start q rs xs w f b o =
-    record {
-      long = b.long;
-      inside = inside;
-      done = [];
-      rank = λ n. q.nodes - 1;
-      once = tt;
-      within = tt;
-      done_shut = λ n i. absurd i;
-      rank_low = λ n h s. absurd (never n h s);
-      rank_most = λ n. let z = f.some_nodes in omega arith;
-      rank_high = λ n ne. refl;
-      top_small = omega arith;
-      sized = λ n h. cases n h (get_or q.holds n false) refl;
-      low = λ n h s. absurd (never n h s);
-      high = λ n t. omega arith;
-      held = λ n h t. b.each n h ∙ cond-true (get_or q.holds n false) 0 infinite t;
-      offers = λ a n e l d s h i. absurd (true≢false (sym (ap (λ x. x && true) (eq-eqb (bit_and (get_or q.needs a 0) w) 0 (if_ready q w a inside s))) ∙ d));
-      peaks = peaks;
-      made = λ n h t fin. absurd (fin (b.each n h ∙ cond-false (get_or q.holds n false) 0 infinite t));
-    }
-  where
-    inside : (n : ℕ) → fact_holds w n ≡ true → n + 1 < q.nodes
-    inside n t = let l = ltb-true n (q.nodes - 1) (sym (o n) ∙ t) in omega arith
+-- a node below k that holds, if there is one
+held_one : (q : Question) (k : ℕ) → ((n : ℕ) → n < k → get_or q.holds n false ≡ false) ⊎ ((m : ℕ) × (m < k) × (get_or q.holds m false ≡ true))
+held_one q zero = inl (λ n h. absurd (omega arith))
+held_one q (suc k) = ⊎_elim
+    (λ t. inr (k, omega arith, t))
+    (λ o. ⊎_elim
+    (λ none. inl (λ n h. ⊎_elim (none n) (λ l. let e : k ≡ n = omega arith in subst (λ m. get_or q.holds m false ≡ false) e o) (cases_lt n k)))
+    (λ m. inr (m.0, (let l = m.1 in omega arith), m.2))
+    (held_one q k))
+    (cases_Bool (get_or q.holds k false))
 
-    never : (n : ℕ) → n + 1 < q.nodes → Shut w n → ⊥
-    never n h s = true≢false (sym (lt-ltb n (q.nodes - 1) (omega arith)) ∙ sym (o n) ∙ s)
+module _ (q : Question) (rs xs : List ℕ) (w : ℕ) (f : Fits q) (b : Begun q xs) (o : Opened q w) where
+  start_inside : (n : ℕ) → fact_holds w n ≡ true → n + 1 < q.nodes
+  start_inside n t = let l = ltb-true n (q.nodes - 1) (and_parts _ _ (sym (o n) ∙ t)).0 in omega arith
 
-    cases : (n : ℕ) → n < q.nodes → (t : Bool) → get_or q.holds n false ≡ t → (get_or xs n 0 ≡ infinite) ⊎ (get_or xs n 0 ≤ 0 + most_weight)
-    cases n h true e = inr (let z = b.each n h ∙ cond-true (get_or q.holds n false) 0 infinite e in omega arith)
-    cases n h false e = inl (b.each n h ∙ cond-false (get_or q.holds n false) 0 infinite e)
+  shut_held : (n : ℕ) → n + 1 < q.nodes → Shut w n → get_or q.holds n false ≡ true
+  shut_held n h s = go (get_or q.holds n false) (sym (ap (λ x. x && not (get_or q.holds n false)) (lt-ltb n (q.nodes - 1) (omega arith))) ∙ sym (o n) ∙ s)
+    where
+      go : (x : Bool) → not x ≡ false → x ≡ true
+      go true e = refl
+      go false e = absurd (true≢false e)
 
-    peaks : (a : ℕ) → a < q.actions → fires_at q w true 0 a ≡ true → Ready q w a × (peak xs (needs_at q a) ≡ 0)
-    peaks a l d =
-        let t = and_parts (eqb (bit_and (get_or q.needs a 0) w) 0) true d in
-        let s = ready_if q w a (eqb-true (bit_and (get_or q.needs a 0) w) 0 t.0) in
-        let m = peak_most xs (needs_at q a) 0 (λ k i. absurd (never k (need_inside q a k i) (s k i))) in
-        (s, omega arith)
+  held_shut : (n : ℕ) → get_or q.holds n false ≡ true → Shut w n
+  held_shut n t = o n ∙ ap (λ x. ltb n (q.nodes - 1) && not x) t ∙ off (ltb n (q.nodes - 1))
+    where
+      off : (x : Bool) → (x && false) ≡ false
+      off true = refl
+      off false = refl
+
+  zero_at : (n : ℕ) → n < q.nodes → get_or q.holds n false ≡ true → get_or xs n 0 ≡ 0
+  zero_at n h t = b.each n h ∙ cond-true (get_or q.holds n false) 0 infinite t
+
+  infinite_at : (n : ℕ) → n < q.nodes → get_or q.holds n false ≡ false → get_or xs n 0 ≡ infinite
+  infinite_at n h t = b.each n h ∙ cond-false (get_or q.holds n false) 0 infinite t
+
+  -- no open node has a value yet
+  pub start_blank : (n : ℕ) → n + 1 < q.nodes → fact_holds w n ≡ true → get_or xs n 0 ≡ infinite
+  start_blank n h t = infinite_at n (omega arith) (go (get_or q.holds n false) (and_parts _ _ (sym (o n) ∙ t)).1)
+    where
+      go : (x : Bool) → not x ≡ true → x ≡ false
+      go true e = absurd (false≢true e)
+      go false e = refl
+
+  abbrev start-rank : ℕ → ℕ
+  start-rank n = cond (ltb n (q.nodes - 1) && get_or q.holds n false) 0 (q.nodes - 1)
+
+  rank_held : (n : ℕ) → n + 1 < q.nodes → Shut w n → start-rank n ≡ 0
+  rank_held n h s = cond-true _ 0 (q.nodes - 1) (and_from (ltb n (q.nodes - 1)) (get_or q.holds n false) (lt-ltb n (q.nodes - 1) (omega arith)) (shut_held n h s))
+
+  rank_open : (n : ℕ) → (n + 1 < q.nodes → Shut w n → ⊥) → start-rank n ≡ q.nodes - 1
+  rank_open n ne = ⊎_elim
+      (λ t. let p = and_parts _ _ t in let l = ltb-true n (q.nodes - 1) p.0 in absurd (ne (omega arith) (held_shut n p.1)))
+      (λ t. cond-false _ 0 (q.nodes - 1) t)
+      (cases_Bool (ltb n (q.nodes - 1) && get_or q.holds n false))
+
+  -- one node that holds stands for all that do
+  going_from : (done : List ℕ) → Once done → AllByRecursion (λ n. n < q.nodes - 1) done → ((n : ℕ) → In n done → Shut w n) → ((n : ℕ) → n + 1 < q.nodes → Shut w n → 0 < length done) → Going q rs xs w 0 (ready_at q w)
+  going_from done once within shut some =
+      record {
+        long = b.long;
+        inside = start_inside;
+        done = done;
+        rank = start-rank;
+        once = once;
+        within = within;
+        done_shut = shut;
+        rank_low = λ n h s. let e = rank_held n h s in let l = some n h s in omega arith;
+        rank_most = λ n. cond_both (ltb n (q.nodes - 1) && get_or q.holds n false) 0 (q.nodes - 1) (λ r. r < q.nodes) (λ _. let z = f.some_nodes in omega arith) (λ _. let z = f.some_nodes in omega arith);
+        rank_high = rank_open;
+        top_small = omega arith;
+        sized = λ n h. ⊎_elim (λ t. inr (let z = zero_at n h t in omega arith)) (λ t. inl (infinite_at n h t)) (cases_Bool (get_or q.holds n false));
+        low = λ n h s. let z = zero_at n (omega arith) (shut_held n h s) in omega arith;
+        high = λ n t. omega arith;
+        held = zero_at;
+        offers = λ a n e l d s h i. absurd (true≢false (sym (eq-eqb (bit_and (get_or q.needs a 0) w) 0 (if_ready q w a start_inside s)) ∙ d));
+        peaks = peaks;
+        made = λ n h t fin. absurd (fin (infinite_at n h t));
+      }
+    where
+      peaks : (a : ℕ) → a < q.actions → ready_at q w a ≡ true → Ready q w a × (peak xs (needs_at q a) ≡ 0)
+      peaks a l d =
+          let s = ready_if q w a (eqb-true (bit_and (get_or q.needs a 0) w) 0 d) in
+          let m = peak_most xs (needs_at q a) 0 (λ k i. let h = need_inside q a k i in let z = zero_at k (omega arith) (shut_held k h (s k i)) in omega arith) in
+          (s, omega arith)
+
+  pub going_start : Going q rs xs w 0 (ready_at q w)
+  going_start = ⊎_elim
+      (λ none. going_from [] tt tt (λ n i. absurd i) (λ n h s. absurd (true≢false (sym (shut_held n h s) ∙ none n (omega arith)))))
+      (λ m. going_from (m.0 ∷ []) (tt, tt) (m.1, tt) (λ n i. ⊎_elim (λ e. subst (Shut w) e (held_shut m.0 m.2)) (λ j. absurd j) i) (λ n h s. omega arith))
+      (held_one q (q.nodes - 1))
 
 -- ---- the end
 
@@ -422,7 +474,7 @@ module _ (q : Question) (rs xs : List ℕ) (w top : ℕ) (f : Fits q) (small : M
 
       supported : (n v : ℕ) → in_zone (take q.nodes q.holds) n ≡ false → value_at (tells_all q xs) n ≡ Some v → Supported (relaxed_of q) (loads q rs) (tells_all q xs) g.rank n
       supported n v o t =
-          let l : n < q.nodes = ⊎_elim (λ h. h) (λ h. absurd (some_none v (sym t ∙ tells_past q xs g.long f.few_nodes n h))) (cases_lt n q.nodes) in
+          let l : n < q.nodes = ⊎_elim (λ h. h) (λ h. absurd (none-some v (sym (tells_past q xs g.long f.few_nodes n h) ∙ t))) (cases_lt n q.nodes) in
           let at = tells_at q xs g.long f.few_nodes n l in
           let back = told_back (get_or xs n 0) v (sym at ∙ t) in
           let m = g.made n l (sym (get_or-take q.nodes q.holds n false l) ∙ o) back.1 in

@@ -6,10 +6,14 @@
 --   edges_in     the edges of all actions
 --   cut_of       the cut of a question, where its values and the remainders are in arrays
 --   paid         what an action is charged in a cut of a weight
---   Placed       chosen needs are nodes
+--   Placed       chosen needs are nodes below the goal node
+--   zone_of      the zone that a word tells for the nodes below the goal node, and a truth value for that
+--   marked       a source is the ground, or its bit is set in a word
 --   Modest       no remainder exceeds that of the largest cost
 --   Light        no edge of an action into a zone weighs less than a cut
-use Rattle.std.specs.Prelude.{◌≡◌, ℕ, zero, suc, ◌+◌, ◌<◌, ◌≤◌, Bool, true, cond, List, [], ◌∷◌, map, take, Some, None, Option, ◌==◌, slice_index, slice_index_or}
+use Rattle.std.specs.Prelude.{◌≡◌, ℕ, zero, suc, ◌+◌, ◌-◌, ◌<◌, ◌≤◌, Bool, true, cond, List, [], ◌∷◌, ◌++◌, map, take, Some, None, Option, ◌==◌, slice_index, slice_index_or}
+use Rattle.task.specs.States.{fact_holds}
+use Rattle.landmarks.specs.Relaxed.{facts_hold}
 use Rattle.landmarks.specs.Rounds.{weight, Value, loaded, Edges, in_zone, starts, into, Crossing, cut, charge}
 use Rattle.lmcut.specs.Questions.{edge_at, reach_of, reaches_from, relaxed_of}
 use Rattle.lmcut.specs.declared.question.Edge.{Edge}
@@ -38,7 +42,14 @@ abbrev pub paid : Question → List (Option ℕ) → List Bool → List Bool →
 paid q ss near start μ a = charge μ (cond (starts start (slice_index_or ss a None)) (into near (reaches_from q a 0 q.nodes)) [])
 
 abbrev pub Placed : Question → List (Option ℕ) → Type 0
-Placed q ss = (a n : ℕ) → a < q.actions → slice_index_or ss a None ≡ Some n → n < q.nodes
+Placed q ss = (a n : ℕ) → a < q.actions → slice_index_or ss a None ≡ Some n → n + 1 < q.nodes
+
+abbrev pub zone_of : Question → Bool → ℕ → List Bool
+zone_of q g w = facts_hold w 0 (q.nodes - 1) ++ (g ∷ [])
+
+abbrev pub marked : ℕ → Option ℕ → Bool
+marked w None = true
+marked w (Some n) = fact_holds w n
 
 abbrev pub Modest : List ℕ → Type 0
 Modest rs = (a : ℕ) → slice_index rs a ≤ 50400000

@@ -4,3 +4,11 @@ pub mod Preferred
 pub mod Spreading
 pub mod Valued
 pub mod Queued
+pub mod Totalled
+pub mod Prepared
+pub mod Recorded
+pub mod Bitwise
+pub mod Marked
+pub mod Entered
+pub mod Answering
+pub mod Settled

@@ -1,13 +1,16 @@
 -- The relaxed task that a prepared question holds.
 --   edge_at        the edge by which an action reaches a node, if it does
+--   reach_of, reach_edge   the reach of a node by an edge, and the edge of a reach
 --   bits_from      the numbers from n, of the next count, whose bits are set in a word
 --   reaches_from   the nodes from n, of the next count, that an action reaches
 --   action_at      an action of the question
 --   actions_from   the actions from a, the next count
 --   relaxed_of     the relaxed task of a question
 --   Fits           the numbers of a question are inside its arrays, shortfalls and gains are at least 1 and inside their limits,
+--                  words have bits of nodes below the goal node only, bit a of the words of a node tells whether action a needs it
+--                  or reaches it, no action past the last needs or reaches a node,
 --                  the helper reaches no other node, the goal node does not hold, and no node that holds is reached
-use Rattle.std.specs.Prelude.{◌≡◌, ℕ, zero, suc, ◌+◌, ◌-◌, ◌<◌, ◌≤◌, false, cond, List, [], ◌∷◌, length, get_or, take, Some, None, Option, ◌==◌, nat_lt, slice_index, slice_index_or}
+use Rattle.std.specs.Prelude.{◌≡◌, ℕ, zero, suc, ◌+◌, ◌-◌, ◌/◌, ◌%◌, ◌<◌, ◌≤◌, true, false, cond, List, [], ◌∷◌, length, get_or, take, Some, None, Option, ◌==◌, nat_lt, slice_index, slice_index_or}
 use Rattle.task.specs.States.{fact_holds}
 use Rattle.landmarks.specs.Relaxed.{Reach, Action, Relaxed}
 use Rattle.lmcut.specs.declared.question.Question.{Question}
@@ -29,6 +32,9 @@ bits_from w n (suc k) = let rest = bits_from w (n + 1) k in cond (fact_holds w n
 
 abbrev pub reach_of : ℕ → Edge → Reach
 reach_of n e = record { node = n; short = e.short; gain = e.gain }
+
+abbrev pub reach_edge : Reach → Edge
+reach_edge x = record { short = x.short; gain = x.gain }
 
 abbrev pub with_edge : ℕ → Option Edge → List Reach → List Reach
 with_edge n None rest = rest
@@ -59,5 +65,11 @@ pub record Fits (q : Question) : Type 0 where
   pub held_long : length q.holds ≡ 129
   pub costs_small : (a : ℕ) → slice_index q.costs a ≤ 10000
   pub helper_free : get_or q.reach (q.actions - 1) 0 ≡ 0
+  pub reach_inside : (a n : ℕ) → fact_holds (slice_index q.reach a) n ≡ true → n + 1 < q.nodes
+  pub needs_inside : (a n : ℕ) → fact_holds (slice_index q.needs a) n ≡ true → n + 1 < q.nodes
+  pub needs_past : (a : ℕ) → q.actions ≤ a → slice_index q.needs a ≡ 0
+  pub reach_past : (a : ℕ) → q.actions ≤ a → slice_index q.reach a ≡ 0
+  pub needing : (n a : ℕ) → n < 128 → a < 384 → fact_holds (slice_index (slice_index_or q.needing n []) (a / 128)) (a % 128) ≡ fact_holds (slice_index q.needs a) n
+  pub reaching : (n a : ℕ) → n < 128 → a < 384 → fact_holds (slice_index (slice_index_or q.reaching n []) (a / 128)) (a % 128) ≡ fact_holds (slice_index q.reach a) n
   pub goal_open : get_or q.holds (q.nodes - 1) false ≡ false
   pub edges_small : (a n : ℕ) (e : Edge) → a < q.actions → n < q.nodes → edge_at q a n ≡ Some e → (1 ≤ e.short) × (e.short ≤ 36000001) × (1 ≤ e.gain) × (e.gain ≤ 32000000) × (slice_index_or q.holds n false ≡ false)

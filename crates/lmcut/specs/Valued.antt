@@ -6,13 +6,15 @@
 --   loads          the actions of a question with their remainders
 --   lowered        a value after an edge's offer from a need value
 --   FiredTo        values after the offers of one action to the first k nodes
---   fires_at       an action whose needs have all left the open nodes, the last of them a given node, or at the start any such action
+--   ready_at       an action that needs no open node
+--   Fired          values after the offers of one action to all nodes, if it needs no open node
+--   fires_at       an action that needs no open node, but needs a given one
 --   Came           a value that one of the first k actions that are due offers to a node
 --   ReachedTo      values after the offers of those of the first k actions that are due, at one need value
 --   Begun          values at the start: 0 for a node that holds, else infinite
---   AllOpen        a word with the first bits set
+--   Opened         a word that has the nodes below the goal node that do not hold
 --   Valued         words that tell the values of a round
-use Rattle.std.specs.Prelude.{◌≡◌, ℕ, ◌+◌, ◌-◌, ◌*◌, ◌/◌, ◌<◌, ◌≤◌, Bool, true, false, cond, ◌&&◌, ◌||◌, ◌⊎◌, List, length, Some, None, Option, ◌==◌, bit_and, nat_lt, slice_index, slice_index_or}
+use Rattle.std.specs.Prelude.{◌≡◌, ℕ, ◌+◌, ◌-◌, ◌*◌, ◌/◌, ◌<◌, ◌≤◌, Bool, true, false, cond, not, ◌&&◌, ◌⊎◌, List, length, Some, None, Option, MatchBool, ◌==◌, bit_and, nat_lt, slice_index, slice_index_or}
 use Rattle.task.specs.States.{fact_holds}
 use Rattle.lmcut.specs.Questions.{edge_at, bits_from, relaxed_of}
 use Rattle.lmcut.specs.Drawn.{read_value}
@@ -45,8 +47,14 @@ pub record FiredTo (q : Question) (a r top k : ℕ) (xs ys : List ℕ) : Type 0 
   pub each : (n : ℕ) → n < k → slice_index ys n ≡ lowered (edge_at q a n) top r (slice_index xs n)
   pub rest : (n : ℕ) → k ≤ n → slice_index ys n ≡ slice_index xs n
 
-abbrev pub fires_at : Question → ℕ → Bool → ℕ → ℕ → Bool
-fires_at q «open» first n a = bit_and (slice_index q.needs a) «open» == 0 && (first || fact_holds (slice_index q.needs a) n)
+abbrev pub ready_at : Question → ℕ → ℕ → Bool
+ready_at q «open» a = bit_and (slice_index q.needs a) «open» == 0
+
+abbrev pub Fired : Question → List ℕ → ℕ → ℕ → ℕ → List ℕ → List ℕ → Type 0
+Fired q rs «open» a top xs ys = MatchBool (ready_at q «open» a) (FiredTo q a (slice_index rs a) top q.nodes xs ys) (ys ≡ xs)
+
+abbrev pub fires_at : Question → ℕ → ℕ → ℕ → Bool
+fires_at q «open» n a = ready_at q «open» a && fact_holds (slice_index q.needs a) n
 
 pub record Came (q : Question) (rs : List ℕ) (due : ℕ → Bool) (top k n y : ℕ) : Type 0 where
   pub action : ℕ
@@ -66,8 +74,8 @@ pub record Begun (q : Question) (xs : List ℕ) : Type 0 where
   pub long : length xs ≡ 129
   pub each : (n : ℕ) → n < q.nodes → slice_index xs n ≡ cond (slice_index_or q.holds n false) 0 infinite
 
-abbrev pub AllOpen : ℕ → ℕ → Type 0
-AllOpen count w = (n : ℕ) → fact_holds w n ≡ nat_lt n count
+abbrev pub Opened : Question → ℕ → Type 0
+Opened q w = (n : ℕ) → fact_holds w n ≡ (nat_lt n (q.nodes - 1) && not (slice_index_or q.holds n false))
 
 pub record Valued (q : Question) (rs : List ℕ) (xs : List ℕ) : Type 0 where
   pub long : length xs ≡ 129

@@ -1,163 +1,125 @@
-// The goal zone and the start zone, spread node by node until nothing changes.
-ghost use Rattle.std.specs.Prelude.{◌≡◌, ℕ, ◌<◌, ◌≤◌, List, take};
-ghost use Rattle.lmcut.specs.Drawn.{edges_in, Placed, Modest};
-ghost use Rattle.lmcut.specs.Questions.{reaches_from, relaxed_of, Fits};
-ghost use Rattle.landmarks.specs.Rounds.{in_zone, weightless_into, leads_in, goal_zone, start_zone};
-ghost use Rattle.lmcut.specs.Spreading.{Stepped, Closed, Leads, Joined, joins};
+// The goal zone, spread node by node, and the start zone, spread action by action until nothing changes. A zone is a word with a bit
+// for each node below the goal node, which is in each goal zone and in no start zone.
+ghost use Rattle.std.specs.Prelude.{◌≡◌, ℕ, ◌+◌, ◌-◌, ◌*◌, ◌<◌, true, false, List, take, nat_lt, slice_index, Some};
+ghost use Rattle.lmcut.specs.Drawn.{edges_in, zone_of};
+ghost use Rattle.task.specs.States.{fact_holds};
+ghost use Rattle.lmcut.specs.Questions.{edge_at, relaxed_of};
+ghost use Rattle.lmcut.specs.declared.question.Edge.{Edge};
+ghost use Rattle.landmarks.specs.Rounds.{in_zone, goal_zone, start_zone};
+ghost use Rattle.lmcut.specs.Spreading.{Stepped, Closed, Sources, joins};
 
-use crate::charges::starts;
-use crate::question::Question;
+use crate::bits::*;
+use crate::graph::*;
+use crate::question::Asked;
 
-// Whether an edge of weight 0 leads from an action into a zone.
-fn weightless(question: &Question, left: u64, zone: &[bool; 129], action: usize) -> bool
-    requires fits { Fits question.now }
-    requires inside { action < question.now.actions }
-    requires modest { left ≤ 50400000 }
-    ensures { result ≡ weightless_into zone.now left (reaches_from question.now action 0 question.now.nodes) }
-{
-    for node in 0..question.nodes {
-        if zone[node] {
-            if let Some(edge) = question.edge(action, node) {
-                if edge.short * left < edge.gain {
-                    return true;
-                }
+impl Asked<'_> {
+    // The nodes that hold.
+    fn held(self) -> u128
+        ensures { (i : ℕ) → in_zone (zone_of self.entry.question.now false result) i ≡ in_zone (take self.entry.question.now.nodes self.entry.question.now.holds) i }
+    {
+        let mut zone = 0u128;
+        for (node, holds) in self.question.holds[..self.question.nodes - 1]
+            .iter()
+            .enumerate()
+        {
+            if *holds {
+                zone |= 1 << node;
             }
         }
+        zone
     }
-    false
 }
 
-// Adds an action's chosen need to the goal zone, if an edge of weight 0 leads on from it; says whether that is new.
-fn goal_step(
-    question: &Question,
-    left: &[u64; 257],
-    sources: &[Option<usize>; 257],
-    zone: &mut [bool; 129],
-    action: usize,
-) -> bool
-    requires fits { Fits question.now }
-    requires placed { Placed question.now sources.now }
-    requires modest { Modest left.now }
-    requires inside { action < question.now.actions }
-    ensures { Stepped (leads_in (edges_in question.now left.now sources.now)) question.now.nodes (Leads question.now left.now sources.now action) zone.old zone.new result }
-{
-    if let Some(source) = sources[action] {
-        if !zone[source] && weightless(question, left[action], zone, action) {
-            zone[source] = true;
-            return true;
+impl Graph<'_> {
+    // Whether the edge from an action to a node that it reaches weighs 0.
+    fn weightless(&self, action: usize, node: usize) -> bool
+        requires inside { action < self.now.asked.question.now.actions }
+        requires reached { fact_holds (slice_index self.now.asked.question.now.reach action) node ≡ true }
+        ensures { (e : Edge) → edge_at self.now.asked.question.now action node ≡ Some e → result ≡ nat_lt (e.short * slice_index self.now.left.now.of action) e.gain }
+    {
+        let edge = self.asked.inner(action, node);
+        edge.short * self.left.of[action] < edge.gain
+    }
+
+    // An action's chosen need, as a word, where its edge to a node that it reaches weighs 0.
+    fn lead(&self, node: usize, action: usize) -> u128
+        requires inside { action < self.now.asked.question.now.actions }
+        requires reached { fact_holds (slice_index self.now.asked.question.now.reach action) node ≡ true }
+        ensures { Sources self.now.asked.question.now self.now.left.now.of self.now.sources.now node action (action + 1) result }
+    {
+        match self.sources[action] {
+            Some(source) if self.weightless(action, node) => 1 << source,
+            _ => 0,
         }
     }
-    false
-}
 
-// One step for each action.
-fn goal_pass(
-    question: &Question,
-    left: &[u64; 257],
-    sources: &[Option<usize>; 257],
-    zone: &mut [bool; 129],
-) -> bool
-    requires fits { Fits question.now }
-    requires placed { Placed question.now sources.now }
-    requires modest { Modest left.now }
-    ensures { Stepped (leads_in (edges_in question.now left.now sources.now)) question.now.nodes (Closed (leads_in (edges_in question.now left.now sources.now)) question.now.nodes) zone.old zone.new result }
-{
-    let mut grew = false;
-    for action in 0..question.actions {
-        if goal_step(question, left, sources, zone, action) {
-            grew = true;
+    // The chosen needs of all actions that lead to a node below the goal node by edges of weight 0.
+    fn leads(&self, node: usize) -> u128
+        requires { node + 1 < self.now.asked.question.now.nodes }
+        ensures { Sources self.now.asked.question.now self.now.left.now.of self.now.sources.now node 0 384 result }
+    {
+        let mut found = 0u128;
+        for action in ActionBits::new(&self.asked.question.reaching[node]) {
+            found |= self.lead(node, action);
+        }
+        found
+    }
+
+    // The helper's chosen need, as a word, where its edge to the goal node weighs 0.
+    fn last_lead(&self) -> u128
+        ensures { Sources self.now.asked.question.now self.now.left.now.of self.now.sources.now (self.now.asked.question.now.nodes - 1) 0 384 result }
+    {
+        let helper = self.asked.question.actions - 1;
+        match self.sources[helper] {
+            Some(source) if self.left.of[helper] == 0 => 1 << source,
+            _ => 0,
         }
     }
-    grew
-}
 
-// The goal node and all nodes that lead to it over edges of weight 0.
-pub(crate) fn goal_zone(
-    question: &Question,
-    left: &[u64; 257],
-    sources: &[Option<usize>; 257],
-) -> [bool; 129]
-    requires fits { Fits question.now }
-    requires placed { Placed question.now sources.now }
-    requires modest { Modest left.now }
-    ensures { (i : ℕ) → in_zone result i ≡ in_zone (goal_zone (relaxed_of question.now) (edges_in question.now left.now sources.now)) i }
-{
-    let mut zone = [false; 129];
-    zone[question.nodes - 1] = true;
-    while goal_pass(question, left, sources, &mut zone) {}
-    zone
-}
-
-// The nodes that hold.
-fn held(question: &Question) -> [bool; 129]
-    requires { Fits question.now }
-    ensures { (i : ℕ) → in_zone result i ≡ in_zone (take question.now.nodes question.now.holds) i }
-{
-    let mut zone = [false; 129];
-    for node in 0..question.nodes {
-        zone[node] = question.holds[node];
+    // The goal node and all nodes that lead to it over edges of weight 0: a fresh node joins the zone, and those that lead to it are
+    // fresh unless in the zone.
+    pub(crate) fn goal_zone(&self) -> u128
+        ensures { (i : ℕ) → in_zone (zone_of self.now.asked.question.now true result) i ≡ in_zone (goal_zone (relaxed_of self.now.asked.question.now) (edges_in self.now.asked.question.now self.now.left.now.of self.now.sources.now)) i }
+    {
+        let mut zone = 0u128;
+        let mut fresh = self.last_lead();
+        while fresh != 0 {
+            let node = fresh.trailing_zeros();
+            zone |= 1 << node;
+            let found = fresh | self.leads(node as usize);
+            fresh = found ^ (found & zone);
+        }
+        zone
     }
-    zone
-}
 
-// Adds the nodes that an action reaches outside the goal zone, if it starts in the zone; says whether one is new.
-fn start_step(
-    question: &Question,
-    sources: &[Option<usize>; 257],
-    near: &[bool; 129],
-    zone: &mut [bool; 129],
-    action: usize,
-) -> bool
-    requires fits { Fits question.now }
-    requires placed { Placed question.now sources.now }
-    requires inside { action < question.now.actions }
-    ensures { Stepped (joins question.now sources.now near.now) question.now.nodes (Joined question.now sources.now near.now action) zone.old zone.new result }
-{
-    if !starts(sources, zone, action) {
-        return false;
+    // For each action that starts in a zone, adds the nodes that it reaches outside the goal zone.
+    fn start_pass(&self, near: u128, from: u128) -> u128
+        ensures { Stepped self.now.asked.question.now false (joins self.now.asked.question.now self.now.sources.now (zone_of self.now.asked.question.now true near)) (Closed (joins self.now.asked.question.now self.now.sources.now (zone_of self.now.asked.question.now true near)) self.now.asked.question.now.nodes) from result }
+    {
+        let sources = self.sources;
+        let mut zone = from;
+        for (&source, &reach) in sources[..self.asked.question.actions]
+            .iter()
+            .zip(&self.asked.question.reach)
+        {
+            if starts(source, zone) {
+                zone |= reach ^ (reach & near);
+            }
+        }
+        zone
     }
-    let mut grew = false;
-    for node in 0..question.nodes {
-        let forbidden = near[node];
-        if !forbidden && !zone[node] && question.edge(action, node).is_some() {
-            zone[node] = true;
-            grew = true;
+
+    // The nodes that hold, and what edges reach from the ground and these without entering the goal zone.
+    pub(crate) fn start_zone(&self, near: u128) -> u128
+        ensures { (rs : List ℕ) (i : ℕ) → in_zone (zone_of self.now.asked.question.now false result) i ≡ in_zone (start_zone (relaxed_of self.now.asked.question.now) (edges_in self.now.asked.question.now rs self.now.sources.now) (zone_of self.now.asked.question.now true near)) i }
+    {
+        let mut zone = self.asked.held();
+        loop {
+            let next = self.start_pass(near, zone);
+            if next == zone {
+                return zone;
+            }
+            zone = next;
         }
     }
-    grew
-}
-
-// One step for each action.
-fn start_pass(
-    question: &Question,
-    sources: &[Option<usize>; 257],
-    near: &[bool; 129],
-    zone: &mut [bool; 129],
-) -> bool
-    requires fits { Fits question.now }
-    requires placed { Placed question.now sources.now }
-    ensures { Stepped (joins question.now sources.now near.now) question.now.nodes (Closed (joins question.now sources.now near.now) question.now.nodes) zone.old zone.new result }
-{
-    let mut grew = false;
-    for action in 0..question.actions {
-        if start_step(question, sources, near, zone, action) {
-            grew = true;
-        }
-    }
-    grew
-}
-
-// The nodes that hold, and what edges reach from the ground and these without entering the goal zone.
-pub(crate) fn start_zone(
-    question: &Question,
-    sources: &[Option<usize>; 257],
-    near: &[bool; 129],
-) -> [bool; 129]
-    requires fits { Fits question.now }
-    requires placed { Placed question.now sources.now }
-    ensures { (rs : List ℕ) (i : ℕ) → in_zone result i ≡ in_zone (start_zone (relaxed_of question.now) (edges_in question.now rs sources.now) near.now) i }
-{
-    let mut zone = held(question);
-    while start_pass(question, sources, near, &mut zone) {}
-    zone
 }

@@ -1,23 +1,14 @@
 // The node values of a round, found lowest first: an action makes its offers once, when the last of its needs leaves the open
 // nodes. The goal node is needed by no action, so it takes offers but is never open.
-ghost use Rattle.std.specs.Prelude.{◌≡◌, ◌*◌, ◌<◌, ◌≤◌};
-ghost use Rattle.lmcut.specs.Questions.{Fits};
-ghost use Rattle.lmcut.specs.Drawn.{Modest};
-ghost use Rattle.lmcut.specs.Valued.{edge_weight, most_weight, FiredTo, fires_at, infinite, ReachedTo, Begun, AllOpen, Valued};
-ghost use Rattle.lmcut.specs.Queued.{orders, Queued, Requeued, put, Blank};
-ghost use Rattle.order.specs.Laws.{Lawful};
+ghost use Rattle.std.specs.Prelude.{◌≡◌, ◌+◌, ◌*◌, ◌<◌, ◌≤◌, length, MatchOption};
+ghost use Rattle.lmcut.specs.Valued.{edge_weight, most_weight, Fired, ready_at, fires_at, infinite, ReachedTo, Begun, Opened, Valued};
+ghost use Rattle.lmcut.specs.Queued.{Queued, NoneWaits, Taken, put};
 
-use crate::question::{Edge, Question};
+use crate::bits::*;
+use crate::left::Left;
+use crate::node::*;
+use crate::question::{Asked, Edge};
 use order::Heap;
-
-const INFINITE: u64 = u64::MAX;
-
-// A node that waits, by its value and then its number.
-#[derive(Clone, Copy, PartialEq, Eq, PartialOrd, Ord)]
-pub struct Node {
-    value: u64,
-    number: u32,
-}
 
 // What an edge weighs where `left` is left of its action's cost.
 fn weight(left: u64, edge: Edge) -> u64
@@ -28,153 +19,138 @@ fn weight(left: u64, edge: Edge) -> u64
     edge.short * left / edge.gain
 }
 
-// Adds a node to the heap, or lowers it there.
-fn queue(heap: &mut Heap<'_, Node>, number: u32, old: u64, new: u64)
-    requires { Lawful orders heap.old }
-    ensures lawful { Lawful orders heap.new }
-    ensures queued { Requeued heap.old number old new heap.new }
-{
-    if old == INFINITE {
-        let _ = heap.push(Node { value: new, number });
-    } else {
-        let _ = heap.lower(Node { value: old, number }, Node { value: new, number });
-    }
+// A round whose values are being found, where `left` is left of the actions' costs: the nodes that are still open, the values so
+// far, and a heap of the open nodes of finite value.
+#[derive(Drop)]
+struct Settling<'q, 'h> {
+    asked: Asked<'q>,
+    left: &'q Left,
+    open_nodes: u128,
+    values: [u64; 129],
+    heap: Heap<'h, Node>,
+    ghost queued: { ∥ Queued values open_nodes asked.question.now.nodes heap ∥₁ },
 }
 
-// Gives a node a candidate for its value: the lower counts.
-fn offer(
-    open: u128,
-    nodes: usize,
-    node: usize,
-    candidate: u64,
-    values: &mut [u64; 129],
-    heap: &mut Heap<'_, Node>,
-)
-    requires { (node < nodes) × ((nodes ≤ 129) × ((candidate < infinite) × (Queued values.old «open» nodes heap.old))) }
-    ensures is { values.new ≡ put values.old node candidate }
-    ensures queued { Queued values.new «open» nodes heap.new }
-{
-    let old = values[node];
-    if candidate < old {
-        values[node] = candidate;
-        if node + 1 < nodes && (open >> node) & 1 == 1 {
-            queue(heap, node as u32, old, candidate);
+impl<'q, 'h> Settling<'q, 'h> {
+    ghost use Rattle.lmcut.specs.Settled.{Kept};
+
+    // The values before any action: 0 for a node that holds, else infinite. The nodes below the goal node that do not hold are open.
+    fn new(asked: Asked<'q>, left: &'q Left, room: &'h mut [Node]) -> Settling<'q, 'h>
+        requires { length room.old ≡ 129 }
+        ensures question { result.asked.question ≡ asked.entry.question }
+        ensures left { result.left ≡ left.entry }
+        ensures begun { Begun asked.entry.question.now result.values }
+        ensures opened { Opened asked.entry.question.now result.open_nodes }
+    {
+        let mut open_nodes = 0u128;
+        let mut values = [INFINITE; 129];
+        for (node, holds) in asked.question.holds[..asked.question.nodes - 1]
+            .iter()
+            .enumerate()
+        {
+            if *holds {
+                values[node] = 0;
+            } else {
+                open_nodes |= 1 << node;
+            }
+        }
+        Settling {
+            asked,
+            left,
+            open_nodes,
+            values,
+            heap: Heap::new(room),
         }
     }
-}
 
-// The values before any action: 0 for a node that holds, else infinite.
-fn begin(question: &Question, open: u128, values: &mut [u64; 129], heap: &mut Heap<'_, Node>)
-    requires { (Fits question.now) × ((Blank values.old) × (Queued values.old «open» question.now.nodes heap.old)) }
-    ensures begun { Begun question.now values.new }
-    ensures queued { Queued values.new «open» question.now.nodes heap.new }
-{
-    for node in 0..question.nodes {
-        if question.holds[node] {
-            offer(open, question.nodes, node, 0, values, heap);
+    // Gives a node a candidate for its value: the lower counts.
+    fn offer(&mut self, node: usize, candidate: u64)
+        requires inside { node < self.old.asked.question.now.nodes }
+        requires finite { candidate < infinite }
+        ensures kept { Kept self.old self.new }
+        ensures is { self.new.values ≡ put self.old.values node candidate }
+    {
+        let old = self.values[node];
+        if candidate < old {
+            self.values[node] = candidate;
+            if node + 1 < self.asked.question.nodes && (self.open_nodes >> node) & 1 == 1 {
+                queue(&mut self.heap, node, old, candidate);
+            }
         }
     }
-}
 
-// A word with the first `count` bits set.
-fn all_open(count: usize) -> u128
-    requires { count ≤ 128 }
-    ensures { AllOpen count result }
-{
-    let mut open = 0u128;
-    for node in 0..count {
-        open |= 1 << node;
-    }
-    open
-}
-
-// Offers an action's edges, from a need value.
-fn fire(
-    question: &Question,
-    action: usize,
-    left: u64,
-    open: u128,
-    top: u64,
-    values: &mut [u64; 129],
-    heap: &mut Heap<'_, Node>,
-)
-    requires { (Fits question.now) × ((action < question.now.actions) × ((left ≤ 50400000) × ((top ≤ 129 * most_weight) × (Queued values.old «open» question.now.nodes heap.old)))) }
-    ensures fired { FiredTo question.now action left top question.now.nodes values.old values.new }
-    ensures queued { Queued values.new «open» question.now.nodes heap.new }
-{
-    for node in 0..question.nodes {
-        if let Some(edge) = question.edge(action, node) {
-            offer(
-                open,
-                question.nodes,
-                node,
-                top + weight(left, edge),
-                values,
-                heap,
-            );
+    // Offers an action's edges, from a need value, if the action needs no open node.
+    fn fire(&mut self, action: usize, top: u64)
+        requires inside { action < self.old.asked.question.now.actions }
+        requires small { top ≤ 129 * most_weight }
+        ensures kept { Kept self.old self.new }
+        ensures fired { Fired self.old.asked.question.now self.old.left.now.of self.old.open_nodes action top self.old.values self.new.values }
+    {
+        let asked = self.asked;
+        let question = asked.question;
+        let left = self.left.of[action];
+        if question.needs[action] & self.open_nodes != 0 {
+            return;
+        }
+        for node in Bits::new(question.reach[action]) {
+            self.offer(node, top + weight(left, asked.inner(action, node)));
+        }
+        if action + 1 == question.actions {
+            self.offer(question.nodes - 1, top + left);
         }
     }
-}
 
-// Whether the last need of an action to leave the open nodes is `node`; at the start, whether it has no needs.
-fn fires(question: &Question, open: u128, first: bool, node: usize, action: usize) -> bool
-    requires { (action < 257) × (node < 128) }
-    ensures { result ≡ fires_at question.now «open» first node action }
-{
-    let needs = question.needs[action];
-    if needs & open != 0 {
-        return false;
-    }
-    first || (needs >> node) & 1 == 1
-}
-
-// The offers of the actions whose last need has just left the open nodes, with its value.
-fn settle(
-    question: &Question,
-    left: &[u64; 257],
-    open: u128,
-    first: bool,
-    last: Node,
-    values: &mut [u64; 129],
-    heap: &mut Heap<'_, Node>,
-)
-    requires { (Fits question.now) × ((Modest left.now) × ((last.number < 128) × ((last.value ≤ 129 * most_weight) × (Queued values.old «open» question.now.nodes heap.old)))) }
-    ensures reached { ReachedTo question.now left.now (fires_at question.now «open» first last.number) last.value question.now.actions values.old values.new }
-    ensures queued { Queued values.new «open» question.now.nodes heap.new }
-{
-    for action in 0..question.actions {
-        if fires(question, open, first, last.number as usize, action) {
-            fire(
-                question,
-                action,
-                left[action],
-                open,
-                last.value,
-                values,
-                heap,
-            );
+    // The offers at the start, with value 0: of all actions, by number, as `settle` is of those that need a node.
+    fn settle_first(&mut self)
+        ensures kept { Kept self.old self.new }
+        ensures reached { ReachedTo self.old.asked.question.now self.old.left.now.of (ready_at self.old.asked.question.now self.old.open_nodes) 0 self.old.asked.question.now.actions self.old.values self.new.values }
+    {
+        for action in 0..self.asked.question.actions {
+            self.fire(action, 0);
         }
     }
+
+    // The offers of the actions whose last need has just left the open nodes, with its value.
+    fn settle(&mut self, last: Node)
+        requires inside { last.number < 128 }
+        requires small { last.value ≤ 129 * most_weight }
+        ensures kept { Kept self.old self.new }
+        ensures reached { ReachedTo self.old.asked.question.now self.old.left.now.of (fires_at self.old.asked.question.now self.old.open_nodes last.number) last.value self.old.asked.question.now.actions self.old.values self.new.values }
+    {
+        for action in ActionBits::new(&self.asked.question.needing[last.number]) {
+            self.fire(action, last.value);
+        }
+    }
+
+    // Takes the node of lowest value out of the heap and the open nodes.
+    fn take(&mut self) -> Option<Node>
+        ensures question { self.new.asked.question ≡ self.old.asked.question }
+        ensures left { self.new.left ≡ self.old.left }
+        ensures values { self.new.values ≡ self.old.values }
+        ensures taken { MatchOption result
+            (NoneWaits self.old.values self.old.open_nodes self.old.asked.question.now.nodes)
+            (λ x. Taken self.old.values self.old.open_nodes self.old.asked.question.now.nodes x self.new.open_nodes) }
+    {
+        let lowest = self.heap.pop()?;
+        self.open_nodes ^= self.open_nodes & (1 << lowest.number);
+        Some(lowest)
+    }
 }
 
-// The node values of a round, where `left` is left of the actions' costs.
-pub(crate) fn values(question: &Question, left: &[u64; 257]) -> [u64; 129]
-    requires { (Fits question.now) × (Modest left.now) }
-    ensures { Valued question.now left.now result }
-{
-    let none = Node {
-        value: 0,
-        number: 0,
-    };
-    let mut values = [INFINITE; 129];
-    let mut room = [none; 129];
-    let mut heap = Heap::new(&mut room);
-    let mut open = all_open(question.nodes - 1);
-    begin(question, open, &mut values, &mut heap);
-    settle(question, left, open, true, none, &mut values, &mut heap);
-    while let Some(node) = heap.pop() {
-        open = open ^ (open & (1 << node.number));
-        settle(question, left, open, false, node, &mut values, &mut heap);
+impl Asked<'_> {
+    // The node values of a round, where `left` is left of the actions' costs.
+    pub(crate) fn values(self, left: &Left) -> [u64; 129]
+        ensures { Valued self.entry.question.now left.now.of result }
+    {
+        let mut room = [Node {
+            value: 0,
+            number: 0,
+        }; 129];
+        let mut settling = Settling::new(self, left, &mut room);
+        settling.settle_first();
+        while let Some(last) = settling.take() {
+            settling.settle(last);
+        }
+        settling.values
     }
-    values
 }

@@ -2,35 +2,46 @@
 use estimate::estimate::*;
 use estimate::estimator::Estimator;
 use landmarks::*;
-use lmcut_words::estimator::*;
-use std::alloc::Global;
+use lmcut::estimator::*;
 use std::process::Abort;
 use std::test::Fail;
 use tables::*;
 use task::accepted::Task;
 use task::state::State;
 
-// A landmark record: round, weight, move, charge.
-pub type Landmark = (u32, u64, u32, u64);
+// A record of a task (its facts, and its values, with 0 past those given), what LM-cut answers there, and the landmark records.
+#[derive(Clone, Copy)]
+pub struct Case<'a> {
+    pub facts: u64,
+    pub values: &'a [i32],
+    pub answer: Estimate,
+    pub records: &'a [Ground],
+}
 
-// A record of a task (its facts, and its values, with 0 past those given), the number that LM-cut answers there, none for dead,
-// and the landmark records.
-pub type Case<'a> = (u64, &'a [i32], Option<u64>, &'a [Landmark]);
-
-// A task in rows of numbers, as its tables have them, and what is expected of it.
+// A task, and what is expected of it.
 pub struct Sample {
-    // the number of facts and the first link of the goal
-    pub head: (u32, u32),
-    // lowest and highest
-    pub quantities: &'static [(i32, i32)],
-    // kind, bound and the first link of the terms
-    pub conditions: &'static [(u32, i32, u32)],
-    // cost and the first links of needs and effects
-    pub moves: &'static [(i32, u32, u32)],
-    // kind, subject, amount and next
-    pub links: &'static [(u32, u32, i32, u32)],
+    pub tables: Tables<'static>,
     pub cases: &'static [Case<'static>],
 }
+
+// Cases from rows: the facts, the values, the answer, and the landmark records by round, weight, move and charge.
+macro_rules! cases_of {
+    ($(($facts:expr, $values:expr, $answer:expr, [$(($round:expr, $weight:expr, $number:expr, $charge:expr)),* $(,)?])),* $(,)?) => {
+        &[$($crate::cases::Case {
+            facts: $facts,
+            values: &$values,
+            answer: $answer,
+            records: &[$(landmarks::Ground {
+                round: $round,
+                weight: $weight,
+                number: $number,
+                charge: $charge,
+            }),*],
+        }),*]
+    };
+}
+
+pub(crate) use cases_of;
 
 // What stands in a buffer before it is written to.
 const BLANK: Ground = Ground {
@@ -40,112 +51,37 @@ const BLANK: Ground = Ground {
     charge: 9999,
 };
 
-fn quantities(heap: Global, rows: &[(i32, i32)]) -> Result<Vec<Quantity>, Fail> {
-    let mut all = Vec::new(heap);
-    for (lowest, highest) in rows {
-        all.push(Quantity {
-            lowest: *lowest,
-            highest: *highest,
-            start: *lowest,
-        })?;
-    }
-    Ok(all)
-}
-
-fn conditions(heap: Global, rows: &[(u32, i32, u32)]) -> Result<Vec<Condition>, Fail> {
-    let mut all = Vec::new(heap);
-    for (kind, bound, terms) in rows {
-        all.push(Condition {
-            kind: *kind,
-            bound: *bound,
-            terms: *terms,
-        })?;
-    }
-    Ok(all)
-}
-
-fn moves(heap: Global, rows: &[(i32, u32, u32)]) -> Result<Vec<Move>, Fail> {
-    let mut all = Vec::new(heap);
-    for (cost, needs, effects) in rows {
-        all.push(Move {
-            cost: *cost,
-            needs: *needs,
-            effects: *effects,
-        })?;
-    }
-    Ok(all)
-}
-
-fn links(heap: Global, rows: &[(u32, u32, i32, u32)]) -> Result<Vec<Link>, Fail> {
-    let mut all = Vec::new(heap);
-    for (kind, subject, amount, next) in rows {
-        all.push(Link {
-            kind: *kind,
-            subject: *subject,
-            amount: *amount,
-            next: *next,
-        })?;
-    }
-    Ok(all)
-}
-
-fn ground(landmark: Landmark) -> Ground {
-    let (round, weight, number, charge) = landmark;
-    Ground {
-        round,
-        weight,
-        number,
-        charge,
-    }
-}
-
 // The records come at the front of a buffer of some length, and what is past them stays as it was.
-fn written(
-    rt: &impl Abort,
-    task: &Task,
-    state: &State,
-    records: &[Landmark],
-    length: usize,
-) -> Result<(), Fail> {
+fn written(rt: &impl Abort, task: &Task, state: &State, records: &[Ground], length: usize) {
     let mut buffer = [BLANK; 300];
-    assert!(rt; length <= 300);
+    assert!(rt; records.len() <= length && length <= 300);
     assert_eq!(rt;
-        LmCut.grounds(task, state, &mut buffer[0..length]),
+        LmCut.grounds(task, state, &mut buffer[..length]),
         Ok(records.len())
     );
-    for (index, found) in buffer.iter().enumerate() {
-        let expected = if index < records.len() {
-            ground(records[index])
-        } else {
-            BLANK
-        };
-        assert_eq!(rt; *found, expected);
-    }
-    Ok(())
+    let (found, past) = buffer.split_at(records.len());
+    assert_eq!(rt; found, records);
+    assert!(rt; past.iter().all(|blank| *blank == BLANK));
 }
 
 // A buffer of some length is refused as too short, and stays as it was.
 fn refused(rt: &impl Abort, task: &Task, state: &State, length: usize) -> Result<(), Fail> {
     let mut buffer = [BLANK; 300];
     assert!(rt; length <= 300);
-    match LmCut.grounds(task, state, &mut buffer[0..length]) {
-        Ok(_) => Err(Fail::new("not refused")),
-        Err(fault) => {
-            assert_eq!(rt; fault.number(), 8);
-            assert_eq!(rt; fault.place(), 0);
-            for found in buffer {
-                assert_eq!(rt; found, BLANK);
-            }
-            Ok(())
-        }
-    }
+    let Err(fault) = LmCut.grounds(task, state, &mut buffer[..length]) else {
+        return Err(Fail::new("not refused"));
+    };
+    assert_eq!(rt; fault.number(), 8);
+    assert_eq!(rt; fault.place(), 0);
+    assert_eq!(rt; buffer, [BLANK; 300]);
+    Ok(())
 }
 
 // The landmark records come in buffers just long enough and longer, and not in buffers one too short or empty.
-fn recorded(rt: &impl Abort, task: &Task, state: &State, records: &[Landmark]) -> Result<(), Fail> {
-    written(rt, task, state, records, records.len())?;
-    written(rt, task, state, records, 300)?;
-    if records.len() > 0 {
+fn recorded(rt: &impl Abort, task: &Task, state: &State, records: &[Ground]) -> Result<(), Fail> {
+    written(rt, task, state, records, records.len());
+    written(rt, task, state, records, 300);
+    if !records.is_empty() {
         refused(rt, task, state, records.len() - 1)?;
         refused(rt, task, state, 0)?;
     }
@@ -153,59 +89,32 @@ fn recorded(rt: &impl Abort, task: &Task, state: &State, records: &[Landmark]) -
 }
 
 // What LM-cut answers about a record of a task, the case at an index of a list, and its landmark records.
-fn holds(rt: &impl Abort, task: &Task, case: Case, index: usize) -> Result<(), Fail> {
-    let (facts, some, answer, records) = case;
+fn holds(rt: &impl Abort, task: &Task, case: &Case, index: usize) -> Result<(), Fail> {
     let mut values = [0; 16];
-    for (value, given) in values.iter_mut().zip(some) {
+    for (value, given) in values.iter_mut().zip(case.values) {
         *value = *given;
     }
-    let state = State { facts, values };
-    let expected = match answer {
-        Some(n) => Estimate::AtLeast(n),
-        None => Estimate::Dead,
+    let state = State {
+        facts: case.facts,
+        values,
     };
-    assert_eq!(rt; LmCut.ask(task, &state), expected, "case {index}");
-    recorded(rt, task, &state, records)
+    assert_eq!(rt; LmCut.ask(task, &state), case.answer, "case {index}");
+    recorded(rt, task, &state, case.records)
 }
 
 // The same at each record of a list.
 pub(crate) fn all_hold(rt: &impl Abort, tables: Tables, cases: &[Case]) -> Result<(), Fail> {
-    match tables.check() {
-        Err(_) => Err(Fail::new("tables refused")),
-        Ok(()) => {
-            let task = Task::new(tables);
-            for (index, case) in cases.iter().enumerate() {
-                holds(rt, &task, *case, index)?;
-            }
-            Ok(())
-        }
+    let task = Task::try_from(tables)?;
+    for (index, case) in cases.iter().enumerate() {
+        holds(rt, &task, case, index)?;
     }
+    Ok(())
 }
 
-// A sample is as expected.
-fn stands(rt: &impl Abort, heap: Global, sample: &Sample) -> Result<(), Fail> {
-    let (facts, goal) = sample.head;
-    let quantities = quantities(heap, sample.quantities)?;
-    let conditions = conditions(heap, sample.conditions)?;
-    let moves = moves(heap, sample.moves)?;
-    let links = links(heap, sample.links)?;
-    let tables = Tables {
-        head: Head {
-            facts,
-            start: 0,
-            goal,
-        },
-        quantities: &quantities,
-        conditions: &conditions,
-        moves: &moves,
-        links: &links,
-    };
-    all_hold(rt, tables, sample.cases)
-}
-
-pub(crate) fn all_stand(rt: &impl Abort, heap: Global, samples: &[Sample]) -> Result<(), Fail> {
+// Every sample is as expected.
+pub(crate) fn all_stand(rt: &impl Abort, samples: &[Sample]) -> Result<(), Fail> {
     for sample in samples {
-        stands(rt, heap, sample)?;
+        all_hold(rt, sample.tables, sample.cases)?;
     }
     Ok(())
 }

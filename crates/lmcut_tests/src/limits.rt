@@ -2,18 +2,13 @@
 ghost use Rattle.std.specs.Prelude.{◌<◌};
 
 use crate::cases::*;
-use std::process::Abort;
+use estimate::estimate::Estimate::*;
+use landmarks::Ground;
+use samples::rows::*;
+use samples::tables_of;
+use std::array;
 use std::test::Fail;
 use tables::*;
-
-fn link(kind: u32, subject: u32, amount: i32, next: u32) -> Link {
-    Link {
-        kind,
-        subject,
-        amount,
-        next,
-    }
-}
 
 // The longest tables. The goal is all 64 facts and all 64 conditions, which are four on each quantity: at least 0, 25, 50 and
 // 100. Each of the first 64 moves sets one fact and clears another; the others, twelve for each quantity, add 1 to 12 to it.
@@ -51,11 +46,7 @@ fn full_condition(index: u32) -> Condition
         2 => 50,
         _ => 100,
     };
-    Condition {
-        kind: 0,
-        bound,
-        terms: 129 + index,
-    }
+    condition(0, bound, 129 + index)
 }
 
 // The cost is 10,000 to set a fact, and 10 to 131 to add 1 to 12: adding 1 is the cheapest for each unit.
@@ -64,80 +55,62 @@ fn full_move(index: u32) -> Move
 {
     let needs = 513 + 14 * index;
     if index < 64 {
-        Move {
-            cost: 10_000,
-            needs,
-            effects: 193 + 2 * index,
-        }
+        action(10_000, needs, 193 + 2 * index)
     } else {
-        Move {
-            cost: (11 * ((index - 64) % 12) + 10) as i32,
-            needs,
-            effects: 257 + index,
-        }
+        action((11 * ((index - 64) % 12) + 10) as i32, needs, 257 + index)
     }
 }
 
 // A round for each fact, with the one move that sets it, then one for each quantity, in which a move pays for each unit it adds.
-fn full_landmark(index: u32) -> Landmark
+fn full_landmark(index: u32) -> Ground
     requires { index < 256 }
 {
+    let number = index + 1;
     if index < 64 {
-        (index + 1, 50_400_000, index + 1, 50_400_000)
-    } else {
-        let place = index - 64;
-        (
-            65 + place / 12,
-            5_040_000,
-            index + 1,
-            50_400 * u64::from(place % 12 + 1),
-        )
+        return Ground {
+            round: number,
+            weight: 50_400_000,
+            number,
+            charge: 50_400_000,
+        };
+    }
+    let place = index - 64;
+    Ground {
+        round: 65 + place / 12,
+        weight: 5_040_000,
+        number,
+        charge: 50_400 * u64::from(place % 12 + 1),
     }
 }
 
 #[test]
 fn longest_tables(rt: HostRuntime) -> Result<(), Fail> {
-    let heap = rt.alloc();
-    let quantities = [Quantity {
-        lowest: 0,
-        highest: 100_000,
-        start: 0,
-    }; 16];
-    let mut conditions = Vec::new(heap);
-    for index in 0..64 {
-        conditions.push(full_condition(index))?;
-    }
-    let mut moves = Vec::new(heap);
-    let mut records = Vec::new(heap);
-    for index in 0..256 {
-        moves.push(full_move(index))?;
-        records.push(full_landmark(index))?;
-    }
-    let mut links = Vec::new(heap);
-    for index in 0..4096 {
-        links.push(full_link(index))?;
-    }
+    let conditions: [Condition; 64] = array::from_fn(|index| full_condition(index as u32));
+    let moves: [Move; 256] = array::from_fn(|index| full_move(index as u32));
+    let links: [Link; 4096] = array::from_fn(|index| full_link(index as u32));
+    let records: [Ground; 256] = array::from_fn(|index| full_landmark(index as u32));
     let tables = Tables {
         head: Head {
             facts: 64,
             start: 0,
             goal: 1,
         },
-        quantities: &quantities,
+        quantities: &[quantity(0, 100_000, 0); 16],
         conditions: &conditions,
         moves: &moves,
         links: &links,
     };
-    all_hold(&rt, tables, &[(0, &[], Some(656_000), &records)])
+    let case = Case {
+        facts: 0,
+        values: &[],
+        answer: AtLeast(656_000),
+        records: &records,
+    };
+    all_hold(&rt, tables, &[case])
 }
 
-// The widest quantities, and values at which sums with negative weights at odd numbers and positive ones at even are least.
-static WIDE: [Quantity; 16] = [Quantity {
-    lowest: -100_000,
-    highest: 100_000,
-    start: 0,
-}; 16];
-
+// The values at which sums with negative weights at odd numbers and positive ones at even are least, in the widest quantities,
+// and those at which they are most.
 static LEAST: [i32; 16] = [
     100_000, -100_000, 100_000, -100_000, 100_000, -100_000, 100_000, -100_000, 100_000, -100_000,
     100_000, -100_000, 100_000, -100_000, 100_000, -100_000,
@@ -173,111 +146,61 @@ fn wide_link(index: u32) -> Link
     }
 }
 
-// The sum is more than 20,000,000, which is the goal at link 34, or at least -20,000,000, which is the one at link 35.
-static FAR: [Condition; 2] = [
-    Condition {
-        kind: 1,
-        bound: 20_000_000,
-        terms: 1,
-    },
-    Condition {
-        kind: 0,
-        bound: -20_000_000,
-        terms: 1,
-    },
-];
+const WIDEST: Quantity = Quantity {
+    lowest: -100_000,
+    highest: 100_000,
+    start: 0,
+};
 
-static STEPS: [Move; 2] = [
-    Move {
-        cost: 10_000,
-        needs: 0,
-        effects: 17,
-    },
-    Move {
-        cost: 10_000,
-        needs: 0,
-        effects: 33,
-    },
-];
+// The sum is more than 20,000,000, which is the goal at link 34, or at least -20,000,000, which is the one at link 35. Links
+// still to be given.
+const FAR: Tables<'static> = Tables {
+    quantities: &[WIDEST; 16],
+    ..tables_of! {
+        head: (0, 0, 34),
+        quantities: [],
+        conditions: [(1, 20_000_000, 1), (0, -20_000_000, 1)],
+        moves: [(10_000, 0, 17), (10_000, 0, 33)],
+        links: [],
+    }
+};
 
-// What LM-cut says where the goal begins at a link and there are some of the moves.
-fn wide<'x>(
-    rt: &impl Abort,
-    goal: u32,
-    moves: &'x [Move],
-    links: &'x [Link],
-    cases: &[Case],
-) -> Result<(), Fail> {
-    let head = Head {
-        facts: 0,
-        start: 0,
-        goal,
-    };
-    all_hold(
-        rt,
-        Tables {
-            head,
-            quantities: &WIDE,
-            conditions: &FAR,
-            moves,
-            links,
+// The same tables where the goal begins at another link.
+fn with_goal(tables: Tables, goal: u32) -> Tables {
+    Tables {
+        head: Head {
+            goal,
+            ..tables.head
         },
-        cases,
-    )
+        ..tables
+    }
 }
 
 #[test]
 fn largest_numbers(rt: HostRuntime) -> Result<(), Fail> {
-    let mut links = Vec::new(rt.alloc());
-    for index in 0..35 {
-        links.push(wide_link(index))?;
-    }
-    wide(
-        &rt,
-        34,
-        &STEPS,
-        &links,
-        &[
-            (
-                0,
-                &LEAST,
-                Some(11_251),
-                &[(1, 56_700_001, 1, 50_400_000), (1, 56_700_001, 2, 16)],
-            ),
-            (
-                0,
-                &MOST,
-                Some(1_251),
-                &[(1, 6_300_001, 1, 50_399_996), (1, 6_300_001, 2, 16)],
-            ),
-        ],
-    )?;
-    wide(
-        &rt,
-        34,
-        &STEPS[1..2],
-        &links,
-        &[(
-            0,
-            &LEAST,
-            Some(36_000_001_000),
-            &[(1, 181_440_005_040_000, 1, 50_400_000)],
-        )],
-    )?;
-    wide(
-        &rt,
-        34,
-        &[],
-        &links,
-        &[(0, &LEAST, None, &[]), (0, &MOST, None, &[])],
-    )?;
-    wide(
-        &rt,
-        35,
-        &STEPS,
-        &links,
-        &[(0, &LEAST, Some(0), &[]), (0, &MOST, Some(0), &[])],
-    )
+    let links: [Link; 35] = array::from_fn(|index| wide_link(index as u32));
+    let both = Tables {
+        links: &links,
+        ..FAR
+    };
+    let far = cases_of! {
+        (0, LEAST, AtLeast(11_251), [(1, 56_700_001, 1, 50_400_000), (1, 56_700_001, 2, 16)]),
+        (0, MOST, AtLeast(1_251), [(1, 6_300_001, 1, 50_399_996), (1, 6_300_001, 2, 16)]),
+    };
+    all_hold(&rt, both, far)?;
+    let second = Tables {
+        moves: &FAR.moves[1..2],
+        ..both
+    };
+    let longest = cases_of! {
+        (0, LEAST, AtLeast(36_000_001_000), [(1, 181_440_005_040_000, 1, 50_400_000)]),
+    };
+    all_hold(&rt, second, longest)?;
+    let none = Tables { moves: &[], ..both };
+    let dead = cases_of! { (0, LEAST, Dead, []), (0, MOST, Dead, []) };
+    all_hold(&rt, none, dead)?;
+    let near = cases_of! { (0, LEAST, AtLeast(0), []), (0, MOST, AtLeast(0), []) };
+    all_hold(&rt, with_goal(both, 35), near)
 }
 
 // Four conditions on all quantities, each with a weight of 9 in one place; four moves, each of which makes that one quantity
@@ -302,115 +225,44 @@ fn steep_link(index: u32) -> Link
     }
 }
 
-static STEEP: [Condition; 4] = [
-    Condition {
-        kind: 1,
-        bound: 20_000_000,
-        terms: 1,
-    },
-    Condition {
-        kind: 1,
-        bound: 20_000_000,
-        terms: 17,
-    },
-    Condition {
-        kind: 1,
-        bound: 20_000_000,
-        terms: 33,
-    },
-    Condition {
-        kind: 1,
-        bound: 20_000_000,
-        terms: 49,
-    },
-];
-
-static UNITS: [Move; 4] = [
-    Move {
-        cost: 10_000,
-        needs: 0,
-        effects: 65,
-    },
-    Move {
-        cost: 10_000,
-        needs: 0,
-        effects: 67,
-    },
-    Move {
-        cost: 10_000,
-        needs: 0,
-        effects: 69,
-    },
-    Move {
-        cost: 10_000,
-        needs: 0,
-        effects: 71,
-    },
-];
-
-// What LM-cut says at the least sums where the goal begins at a link: the conditions from one on.
-fn steep(
-    rt: &impl Abort,
-    goal: u32,
-    links: &[Link],
-    answer: u64,
-    records: &[Landmark],
-) -> Result<(), Fail> {
-    let head = Head {
-        facts: 0,
-        start: 0,
-        goal,
-    };
-    all_hold(
-        rt,
-        Tables {
-            head,
-            quantities: &WIDE,
-            conditions: &STEEP,
-            moves: &UNITS,
-            links,
-        },
-        &[(0, &LEAST, Some(answer), records)],
-    )
-}
+// The goal begins at a link: it is the conditions from one on. Links still to be given.
+const STEEP: Tables<'static> = Tables {
+    quantities: &[WIDEST; 16],
+    ..tables_of! {
+        head: (0, 0, 76),
+        quantities: [],
+        conditions: [(1, 20_000_000, 1), (1, 20_000_000, 17), (1, 20_000_000, 33), (1, 20_000_000, 49)],
+        moves: [(10_000, 0, 65), (10_000, 0, 67), (10_000, 0, 69), (10_000, 0, 71)],
+        links: [],
+    }
+};
 
 // Each condition takes a round of more than a third of what ends the rounds, so the fourth is not made.
 #[test]
 fn most_that_is_told(rt: HostRuntime) -> Result<(), Fail> {
-    let mut links = Vec::new(rt.alloc());
-    for index in 0..76 {
-        links.push(steep_link(index))?;
-    }
+    let links: [Link; 76] = array::from_fn(|index| steep_link(index as u32));
+    let steep = Tables {
+        links: &links,
+        ..STEEP
+    };
     let weight = 1_809_360_050_400_000;
     let charge = 50_400_000;
-    steep(&rt, 76, &links, 359_000_010_000, &[(1, weight, 4, charge)])?;
-    steep(
-        &rt,
-        75,
-        &links,
-        718_000_020_000,
-        &[(1, weight, 3, charge), (2, weight, 4, charge)],
-    )?;
-    steep(
-        &rt,
-        74,
-        &links,
-        1_000_000_000_000,
-        &[
-            (1, weight, 2, charge),
-            (2, weight, 3, charge),
-            (3, weight, 4, charge),
-        ],
-    )?;
-    steep(
-        &rt,
-        73,
-        &links,
-        1_000_000_000_000,
-        &[
-            (1, weight, 1, charge),
-            (2, weight, 2, charge),
-            (3, weight, 3, charge),
-        ],
-    )
+    let one = cases_of! { (0, LEAST, AtLeast(359_000_010_000), [(1, weight, 4, charge)]) };
+    all_hold(&rt, steep, one)?;
+    let two = cases_of! {
+        (0, LEAST, AtLeast(718_000_020_000), [(1, weight, 3, charge), (2, weight, 4, charge)]),
+    };
+    all_hold(&rt, with_goal(steep, 75), two)?;
+    let three = cases_of! {
+        (0, LEAST, AtLeast(1_000_000_000_000), [
+            (1, weight, 2, charge), (2, weight, 3, charge), (3, weight, 4, charge),
+        ]),
+    };
+    all_hold(&rt, with_goal(steep, 74), three)?;
+    let three_of_four = cases_of! {
+        (0, LEAST, AtLeast(1_000_000_000_000), [
+            (1, weight, 1, charge), (2, weight, 2, charge), (3, weight, 3, charge),
+        ]),
+    };
+    all_hold(&rt, with_goal(steep, 73), three_of_four)
 }

@@ -1,56 +1,45 @@
 -- What each call of a heap does to the entries held.
-use Rattle.std.proofs.Common.{◌≡◌, ℕ, zero, suc, ◌+◌, ◌-◌, ◌/◌, ◌<◌, ◌≤◌, List, [], ◌∷◌, ◌++◌, length, get_or, take, drop, set, Ordering, sym, refl, ap, ◌∙◌, subst, ⊎_elim, arith, length-take, drop-cons, get_or-set_other, get_or-take, get_or-set_same, drop-set-lt}
+use Rattle.std.proofs.Common.{◌≡◌, ℕ, zero, suc, ◌+◌, ◌-◌, ◌/◌, ◌<◌, ◌≤◌, List, [], ◌∷◌, ◌++◌, length, get_or, take, drop, set, Ordering, Option, Some, None, MatchOption, is_some, slice_get, true≢false, sym, refl, ap, ◌∙◌, subst, ⊎_elim, arith, length-take, get_or-set_other, get_or-take, get_or-set_same, drop-set-lt}
 use mathlib.Core.Bool.{Bool-set}
 use mathlib.Core.HLevel.{Π_prop}
 use mathlib.Core.Logic.{∥∥₁_elim}
 use lib.Seq.{take-set-lt, set_split}
+use Rattle.std.specs.declared.cmp.Ord as ord
+use Rattle.std.specs.declared.cmp.PartialEq as eq
+use Rattle.std.specs.declared.cmp.PartialOrd as partial
 use Rattle.std.specs.Cmp.{IsTotalOrder}
-use Rattle.std.specs.List.{ContainsAt as Has}
+use Rattle.std.specs.List.{Contains, remove}
 use Rattle.std.specs.List.Sorted.{IsPermutation}
-use Rattle.std.proofs.ByRecursion.{All-from_get_or, has_get_or}
-use Rattle.std.proofs.lemmas.List.{take-append-drop, take_more, take_more_set, drop_more, get_or_default}
-use Rattle.std.proofs.lemmas.List.Sorted.{IsPermutation-refl, IsPermutation-swap, IsPermutation-trans, IsPermutation-sym, IsPermutation-cons, IsPermutation-to_front}
+use Rattle.std.proofs.lemmas.List.Elements.{All-from_get_or, Contains-get_or}
+use Rattle.std.proofs.lemmas.List.{take_more, take_more_set, drop_more, get_or_default}
+use Rattle.std.proofs.lemmas.List.Sorted.{IsPermutation-refl, IsPermutation-middle, IsPermutation-remove, IsPermutation-trans, IsPermutation-sym, IsPermutation-cons, IsPermutation-to_front}
 use Rattle.std.proofs.lemmas.Bool.{cases_eq}
+use Rattle.std.proofs.lemmas.Option.{get_or_from_slice_get, slice_get_cases, slice_get_within}
 use Rattle.order.specs.declared.Heap.{Heap}
 use Rattle.order.specs.Laws.{First, Lawful}
 use Rattle.order.specs.Ranks.{AtMost}
-use Rattle.order.specs.Shape.{Heaped, Raised, Rising, Sinking, Sunk}
+use Rattle.order.specs.Shape.{Heaped, Keeps, Raised, Rising, Sinking, Sunk}
 use Rattle.order.proofs.Ranking.{at_most_refl, at_most_trans}
 use Rattle.order.proofs.Sifting.{by}
 use Rattle.order.proofs.Stirring.{Swaps, stirred_swap}
 
-module _ {X : Type 0} where
-  -- ---- shuffles
-
-  pub shuffled_same : (xs ys : List X) → xs ≡ ys → IsPermutation xs ys
-  shuffled_same xs ys e = subst (IsPermutation xs) e (IsPermutation-refl xs)
-
-  swap_two : (a b : X) (xs : List X) → IsPermutation (a ∷ b ∷ xs) (b ∷ a ∷ xs)
-  swap_two a b xs = IsPermutation-swap (a ∷ b ∷ xs) (b ∷ a ∷ xs) 0 1 (omega arith) (omega arith) refl
-
-  -- an entry in the middle comes to the front
-  pub shuffled_middle : (xs : List X) (x : X) (ys : List X) → IsPermutation (xs ++ x ∷ ys) (x ∷ (xs ++ ys))
-  shuffled_middle [] x ys = IsPermutation-refl (x ∷ ys)
-  shuffled_middle (a ∷ xs) x ys =
-      IsPermutation-trans _ _ _ (IsPermutation-cons a _ _ (shuffled_middle xs x ys)) (swap_two a x (xs ++ ys))
-
-  split : (xs : List X) (i : ℕ) (d : X) → i < length xs → xs ≡ take i xs ++ get_or xs i d ∷ drop (suc i) xs
-  split xs i d lt = sym (take-append-drop i xs) ∙ ap (λ l. take i xs ++ l) (drop-cons xs i d lt)
+same_permutation : {X : Type 0} (xs ys : List X) → xs ≡ ys → IsPermutation xs ys
+same_permutation xs ys e = subst (IsPermutation xs) e (IsPermutation-refl xs)
 
 module _ {X : Type 0} {R : X → X → Ordering} where
-  -- ---- a lawful heap
+  -- ---- the entries that a heap keeps
 
-  pub lawful_empty : (h : Heap X) → h.len ≡ 0 → Lawful R h
+  pub keeps_none : (xs : List X) → Keeps R xs 0
   unfolding Heaped
-  lawful_empty h z = (omega arith, ∣ (λ o p k d kin lt. absurd (omega arith)) ∣₁)
+  keeps_none xs = (omega arith, ∣ (λ o p k d kin lt. absurd (omega arith)) ∣₁)
 
   -- the fact in `∥ ∥₁` has one proof at most, so it comes out again
   one_proof : (xs : List X) (n : ℕ) → IsProp ((o : IsTotalOrder R) → Heaped o xs n)
   unfolding Heaped
   one_proof xs n = Π_prop (λ o. Π_prop (λ p. Π_prop (λ k. Π_prop (λ d. Π_prop (λ kin. Π_prop (λ lt. Bool-set _ _))))))
 
-  pub lawful_heaped : (h : Heap X) → Lawful R h → (o : IsTotalOrder R) → Heaped o h.entries.now h.len
-  lawful_heaped h l = ∥∥₁_elim l.1 (one_proof h.entries.now h.len) (λ f. f)
+  pub keeps_heaped : (xs : List X) (n : ℕ) → Keeps R xs n → (o : IsTotalOrder R) → Heaped o xs n
+  keeps_heaped xs n l = ∥∥₁_elim l.1 (one_proof xs n) (λ f. f)
 
   top : (o : IsTotalOrder R) (xs : List X) (n : ℕ) (d : X) → Heaped o xs n → (fuel k : ℕ) → k ≤ fuel → k < n → AtMost o (get_or xs 0 d) (get_or xs k d)
   unfolding Heaped
@@ -61,7 +50,7 @@ module _ {X : Type 0} {R : X → X → Ordering} where
       (cases_eq k 0)
 
   -- what stands first
-  pub first_from : (h : Heap X) (e : X) → 0 < h.len → Lawful R h → First R h (get_or h.entries.now 0 e)
+  first_from : {g : ord.Ghosts X} {g' : eq.Ghosts X} {g'' : partial.Ghosts X} (h : Heap X g g' g'') (e : X) → 0 < h.len → Lawful R h → First R h (get_or h.entries.now 0 e)
   first_from h e some l =
       let xs = h.entries.now in
       let n = h.len in
@@ -69,13 +58,26 @@ module _ {X : Type 0} {R : X → X → Ordering} where
       let in' : 0 < length (take n xs) = simp length-take (omega arith) in
       record {
         front = λ d. get_or_default xs 0 e d (omega arith);
-        has = subst (Has (take n xs)) (get_or-take n xs 0 e some) (has_get_or (take n xs) 0 e in');
+        has = subst (Contains (take n xs)) (get_or-take n xs 0 e some) (Contains-get_or (take n xs) 0 e in');
         least = λ o. All-from_get_or (AtMost o (get_or xs 0 e)) (take n xs) e
             (λ i lt. let k : i < n = omega (arith, simp length-take at lt) in
-            by o _ _ _ _ refl (get_or-take n xs i e k) (top o xs n e (lawful_heaped h l o) i i (omega arith) k));
+            by o _ _ _ _ refl (get_or-take n xs i e k) (top o xs n e (keeps_heaped xs n l o) i i (omega arith) k));
       }
 
-  pub first_some : {h : Heap X} {x : X} → First R h x → 0 < h.len
+  -- what `first` tells
+  pub first_answer : {g : ord.Ghosts X} {g' : eq.Ghosts X} {g'' : partial.Ghosts X} (h : Heap X g g' g'') (r : Option X) → r ≡ slice_get (take h.len h.entries.now) 0 → Lawful R h → MatchOption r (h.len ≡ 0) (First R h)
+  first_answer h None e l = ⊎_elim
+      (λ s. absurd (true≢false (sym (ap is_some (e ∙ s.2)))))
+      (λ s. omega (arith, simp length-take at s.0, l.0))
+      (slice_get_cases (take h.len h.entries.now) 0).1
+  first_answer h (Some x) e l =
+      let xs = h.entries.now in
+      let n = h.len in
+      let inside = slice_get_within (take n xs) 0 x (sym e) in
+      let some : 0 < n = omega (arith, simp length-take at inside) in
+      subst (First R h) (sym (get_or-take n xs 0 x some) ∙ get_or_from_slice_get (take n xs) 0 x x (sym e)) (first_from h x some l)
+
+  pub first_some : {g : ord.Ghosts X} {g' : eq.Ghosts X} {g'' : partial.Ghosts X} {h : Heap X g g' g''} {x : X} → First R h x → 0 < h.len
   first_some {h} f = omega (arith, simp length-take at f.has.1)
 
   -- ---- push
@@ -116,7 +118,7 @@ module _ {X : Type 0} {R : X → X → Ordering} where
     popped_held =
         let front : take n ys ≡ take m ys ++ x ∷ [] = ap (λ k. take k ys) len ∙ take_more ys m x (omega arith) ∙ ap (λ y. take m ys ++ y ∷ []) last in
         IsPermutation-trans _ _ _ (stirred_swap xs ys 0 m n (omega arith) (omega arith) (omega arith) (omega arith) s).held
-        (IsPermutation-trans _ _ _ (shuffled_same _ _ front)
+        (IsPermutation-trans _ _ _ (same_permutation _ _ front)
         (IsPermutation-trans _ _ _ (IsPermutation-to_front (take m ys) x) (IsPermutation-cons x _ _ down.stirred.held)))
 
     pub popped_rest : drop m zs ≡ x ∷ drop n xs
@@ -143,25 +145,19 @@ module _ {X : Type 0} {R : X → X → Ordering} where
       λ p k d over under lt. by o _ _ _ _ (kept p d (omega arith)) (kept k d (omega arith)) (at_most_trans o _ _ _ (h p at d over in') (h at k d under lt)),
     )
 
-    pub others : List X
-    others = take at (take n xs) ++ drop (suc at) (take n xs)
-
     within : at < length (take n xs)
     within = simp length-take (omega arith)
 
     pub lowered_rest : drop n zs ≡ drop n xs
     lowered_rest = (up.stirred n in').rest ∙ ap (drop n) put ∙ drop-set-lt n xs at x in'
 
-    pub lowered_before : (d : X) → IsPermutation (take n xs) (get_or xs at d ∷ others)
-    unfolding others
-    lowered_before d = IsPermutation-trans _ _ _
-        (shuffled_same _ _ (split (take n xs) at d within ∙ ap (λ y. take at (take n xs) ++ y ∷ drop (suc at) (take n xs)) (get_or-take n xs at d in')))
-        (shuffled_middle _ _ _)
+    pub lowered_before : (d : X) → IsPermutation (take n xs) (get_or xs at d ∷ remove (take n xs) at)
+    lowered_before d =
+        IsPermutation-remove (take n xs) at (get_or xs at d) within (get_or_default xs at d (get_or xs at d) (omega arith) ∙ sym (get_or-take n xs at (get_or xs at d) in'))
 
-    pub lowered_after : IsPermutation (x ∷ others) (take n zs)
-    unfolding others
+    pub lowered_after : IsPermutation (x ∷ remove (take n xs) at) (take n zs)
     lowered_after = IsPermutation-trans _ _ _
-        (IsPermutation-sym _ _ (shuffled_middle (take at (take n xs)) x (drop (suc at) (take n xs))))
+        (IsPermutation-sym _ _ (IsPermutation-middle (take at (take n xs)) x (drop (suc at) (take n xs))))
         (IsPermutation-trans _ _ _
-        (shuffled_same _ _ (sym (ap (take n) put ∙ take-set-lt n xs at x in' ∙ set_split (take n xs) at x within)))
+        (same_permutation _ _ (sym (ap (take n) put ∙ take-set-lt n xs at x in' ∙ set_split (take n xs) at x within)))
         (up.stirred n in').held)

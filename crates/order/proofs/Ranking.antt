@@ -1,7 +1,7 @@
 -- `AtMost` under a total order is reflexive and transitive, and what a test tells of it.
-use Rattle.std.proofs.Common.{◌≡◌, true, false, Ordering, Less, Equal, Greater, sym, refl, ap, ◌∙◌, true≢false}
-use Rattle.std.specs.Cmp.{IsTotalOrder}
-use Rattle.std.specs.Ordering.{is_le, is_lt, ordering_reverse}
+use Rattle.std.proofs.Common.{◌≡◌, Bool, true, false, not, Option, Ordering, Less, Equal, Greater, sym, refl, ap, ◌∙◌, true≢false}
+use Rattle.std.specs.Cmp.{IsTotalOrder, Agrees}
+use Rattle.std.specs.Ordering.{is_ge, is_le, is_lt, is_some_and, ordering_reverse, partial_ge, partial_lt}
 use Rattle.order.specs.Ranks.{AtMost}
 
 even : (r : Ordering) → r ≡ ordering_reverse r → is_le r ≡ true
@@ -18,6 +18,19 @@ not_lt : (r s : Ordering) → s ≡ ordering_reverse r → is_lt s ≡ false →
 not_lt Less s e h = refl
 not_lt Equal s e h = refl
 not_lt Greater s e h = sym h ∙ ap is_lt e
+
+ge_not_lt : (r : Ordering) → is_lt r ≡ not (is_ge r)
+ge_not_lt Less = refl
+ge_not_lt Equal = refl
+ge_not_lt Greater = refl
+
+-- what `<` and `>=` answer, where `partial_cmp` answers what `cmp` does
+module _ {X : Type 0} {R : X → X → Ordering} {C : X → X → Option Ordering} (a : Agrees C R) where
+  pub told_lt : (x y : X) {r b : Bool} → r ≡ partial_lt C x y → r ≡ b → is_lt (R x y) ≡ b
+  told_lt x y e t = ap (is_some_and is_lt) (sym (a x y)) ∙ sym e ∙ t
+
+  pub told_ge : (x y : X) {r b : Bool} → r ≡ partial_ge C x y → r ≡ b → is_lt (R x y) ≡ not b
+  told_ge x y e t = ge_not_lt (R x y) ∙ ap not (ap (is_some_and is_ge) (sym (a x y)) ∙ sym e ∙ t)
 
 module _ {X : Type 0} {R : X → X → Ordering} (o : IsTotalOrder R) where
   pub at_most_refl : (x : X) → AtMost o x x

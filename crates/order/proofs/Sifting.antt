@@ -4,8 +4,8 @@ use Rattle.std.specs.Cmp.{IsTotalOrder}
 use Rattle.std.specs.Ordering.{is_lt}
 use Rattle.std.proofs.lemmas.Bool.{cases_eq}
 use Rattle.order.specs.Ranks.{AtMost}
-use Rattle.order.specs.Shape.{Child, Heaped, Rising, Sinking, LowerChild}
-use Rattle.order.proofs.Ranking.{at_most_refl, at_most_trans, at_most_below, at_most_not_below}
+use Rattle.order.specs.Shape.{Child, Heaped, Rising, Sinking}
+use Rattle.order.proofs.Ranking.{at_most_trans, at_most_below, at_most_not_below}
 use Rattle.order.proofs.Stirring.{Swaps}
 
 module _ {X : Type 0} {R : X → X → Ordering} (o : IsTotalOrder R) where
@@ -84,14 +84,3 @@ module _ {X : Type 0} {R : X → X → Ordering} (o : IsTotalOrder R) where
           let z : p ≡ q = omega arith in
           by _ _ _ _ (at p q d z ∙ s.0 d) (s.2 k d (omega arith) (omega arith)) (h.0 j k d e lt (omega arith)),
     )
-
-module _ {X : Type 0} (R : X → X → Ordering) (xs : List X) (p l n : ℕ) (is : l ≡ p * 2 + 1) where
-  -- the left child is the lower where it is the only one, or the right one is not below it
-  pub lowest_only : n ≤ l + 1 → LowerChild R xs p l n
-  lowest_only le o k d kin lt = let e : k ≡ l = omega arith in by o _ _ _ _ refl (ap (λ i. get_or xs i d) e) (at_most_refl o _)
-
-  pub lowest_left : ((o : IsTotalOrder R) (d : X) → is_lt (R (get_or xs (l + 1) d) (get_or xs l d)) ≡ false) → LowerChild R xs p l n
-  lowest_left told o k d kin lt = ⊎_elim
-      (λ e. by o _ _ _ _ refl (ap (λ i. get_or xs i d) e) (at_most_refl o _))
-      (λ ne. let e : k ≡ l + 1 = omega arith in by o _ _ _ _ refl (ap (λ i. get_or xs i d) e) (at_most_not_below o _ _ (told o d)))
-      (cases_eq k l)

@@ -2,6 +2,7 @@
 -- R is `T.cmp`, and o any total order that R allows.
 --     Child p k              k is a child of p
 --     Heaped o xs n          no entry is below its parent
+--     Keeps R xs n           n is at most the length of xs, and its first n are heaped
 --     Skips o xs j n         no child of j is below the parent of j
 --     Rising o xs j n        heaped, but that the entry at j may be below its parent
 --     Sinking o xs j n       heaped, but that the entry at j may be above its children
@@ -9,7 +10,7 @@
 --     Stirred xs n ys        ys has the first n of xs in some order, and the others as they were
 --     Raised R xs j ys       ys is xs after the entry at j rose to its place
 --     Sunk R xs n ys         ys is xs after the first entry sank to its place among n
-use Rattle.std.specs.Prelude.{◌≡◌, ℕ, ◌+◌, ◌*◌, ◌<◌, ◌≤◌, List, take, drop, ◌≢◌, slice_index_or}
+use Rattle.std.specs.Prelude.{◌≡◌, ℕ, ◌+◌, ◌*◌, ◌<◌, ◌≤◌, List, take, drop, ◌≢◌, length, slice_index_or}
 use Rattle.std.specs.declared.cmp.Ordering.{Ordering}
 use Rattle.std.specs.Cmp.{IsTotalOrder}
 use Rattle.std.specs.List.Sorted.{IsPermutation}
@@ -30,6 +31,10 @@ module _ {X : Type 0} {R : X → X → Ordering} (o : IsTotalOrder R) where
 
   unfoldable pub Sinking : List X → ℕ → ℕ → Type 0
   Sinking xs j n = ((p k : ℕ) (d : X) → Child p k → k < n → (p ≢ j) → AtMost o (slice_index_or xs p d) (slice_index_or xs k d)) × Skips xs j n
+
+-- in `∥ ∥₁`, so that it can stand in a ghost field
+abbrev pub Keeps : {X : Type 0} → (X → X → Ordering) → List X → ℕ → Type 0
+Keeps R xs n = (n ≤ length xs) × ∥ ((o : IsTotalOrder R) → Heaped o xs n) ∥₁
 
 abbrev pub LowerChild : {X : Type 0} → (X → X → Ordering) → List X → ℕ → ℕ → ℕ → Type 0
 LowerChild {X} R xs p c n = (o : IsTotalOrder R) (k : ℕ) (d : X) → Child p k → k < n → AtMost o (slice_index_or xs c d) (slice_index_or xs k d)

@@ -3,17 +3,19 @@
 #![tactic(auto)]
 
 ghost use Rattle.std.specs.Prelude.{◌≡◌};
-ghost use Rattle.order.specs.Laws.{Lawful};
+ghost use Rattle.order.specs.Shape.{Keeps};
 
 mod reads;
 mod sift;
 mod writes;
 
-// The first `len` of `entries` are held, each at most its children.
+// The first `len` of `entries` are held, each at most its children. The slice is lent: nothing is allocated.
+// It has no `impl Model`, with which a caller would not learn what the slice holds once the heap is let go.
 #[derive(Drop)]
-pub struct Heap<'a, T> {
+pub struct Heap<'a, T: Ord + Copy> {
     entries: &'a mut [T],
     len: usize,
+    ghost lawful: { Keeps T.cmp entries.now len },
 }
 
 impl<'a, T: Ord + Copy> Heap<'a, T> {
@@ -21,7 +23,6 @@ impl<'a, T: Ord + Copy> Heap<'a, T> {
     pub fn new(entries: &'a mut [T]) -> Heap<'a, T>
         ensures empty { result.len ≡ 0 }
         ensures lent { result.entries.now ≡ entries.old }
-        ensures lawful { Lawful T.cmp result }
         ensures lender { result.entries.ghost_name ≡ entries.entry.ghost_name }
     {
         Heap { entries, len: 0 }

@@ -1,6 +1,6 @@
 // What a heap tells of the entries held.
 ghost use Rattle.std.specs.Prelude.{◌≡◌, MatchOption, ◌==◌};
-ghost use Rattle.order.specs.Laws.{Lawful, First};
+ghost use Rattle.order.specs.Laws.{First};
 
 use super::Heap;
 
@@ -13,12 +13,8 @@ impl<'a, T: Ord + Copy> Heap<'a, T> {
 
     // The lowest entry.
     pub fn first(&self) -> Option<T>
-        requires { Lawful T.cmp self.now }
         ensures { MatchOption result (self.now.len ≡ 0) (First T.cmp self.now) }
     {
-        if self.len == 0 {
-            return None;
-        }
-        Some(self.entries[0])
+        self.entries[..self.len].first().copied()
     }
 }

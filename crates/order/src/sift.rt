@@ -1,19 +1,6 @@
-// How two entries compare, and the two ways an entry of a heap finds its place.
+// The two ways an entry of a heap finds its place: it rises by halves of its index, or sinks by doubles, so each is a `while`.
 ghost use Rattle.std.specs.Prelude.{◌≡◌, ◌+◌, ◌*◌, ◌<◌, ◌≤◌, length};
-ghost use Rattle.order.specs.Ranks.{Tells, Ties};
 ghost use Rattle.order.specs.Shape.{Child, LowerChild, Raised, Sunk};
-
-pub(super) fn is_below<T: Ord + Copy>(a: T, b: T) -> bool
-    ensures { Tells T.cmp a b result }
-{
-    a.cmp(&b).is_lt()
-}
-
-pub(super) fn is_tied<T: Ord + Copy>(a: T, b: T) -> bool
-    ensures { Ties T.cmp a b result }
-{
-    a.cmp(&b).is_eq()
-}
 
 // Raises the entry at `from` until its parent is not above it.
 pub(super) fn sift_up<T: Ord + Copy>(entries: &mut [T], from: usize)
@@ -24,7 +11,7 @@ pub(super) fn sift_up<T: Ord + Copy>(entries: &mut [T], from: usize)
     let mut at = from;
     while 0 < at {
         let parent = (at - 1) / 2;
-        if !is_below(entries[at], entries[parent]) {
+        if entries[at] >= entries[parent] {
             return;
         }
         entries.swap(parent, at);
@@ -40,7 +27,7 @@ fn lower_child<T: Ord + Copy>(entries: &[T], at: usize, len: usize) -> usize
 {
     let left = at * 2 + 1;
     let right = left + 1;
-    if right < len && is_below(entries[right], entries[left]) {
+    if right < len && entries[right] < entries[left] {
         right
     } else {
         left
@@ -56,7 +43,7 @@ pub(super) fn sift_down<T: Ord + Copy>(entries: &mut [T], len: usize)
     let mut at = 0;
     while at < len / 2 {
         let child = lower_child(entries, at, len);
-        if !is_below(entries[child], entries[at]) {
+        if entries[child] >= entries[at] {
             return;
         }
         entries.swap(at, child);

@@ -1,16 +1,21 @@
 -- What the two orders say by fields.
-use Rattle.std.proofs.Common.{◌≡◌, ◌⊎◌, Ordering, Equal, inl, inr, ⊎_elim, arith, length-take}
+use Rattle.std.proofs.Common.{◌≡◌, ◌⊎◌, Some, None, Option, MatchOption, inl, inr, ⊎_elim, arith, length-take}
+use Rattle.std.specs.declared.cmp.Ord as ord
+use Rattle.std.specs.declared.cmp.PartialEq as eq
+use Rattle.std.specs.declared.cmp.PartialOrd as partial
 use Rattle.std.specs.Cmp.{IsTotalOrder, nat_cmp_total, on_total, then_total}
-use Rattle.std.specs.Ordering.{nat_cmp, on, then_cmp}
-use Rattle.std.specs.List.{ContainsAt as Has}
+use Rattle.std.specs.Ordering.{nat_cmp, on}
+use Rattle.std.specs.List.{Contains}
 use Rattle.order.specs.declared.Heap.{Heap}
 use Rattle.order.specs.Laws.{held, First, Pushed}
 use Rattle.order.specs.Ranks.{AtMost}
-use Rattle.order.proofs.Fields.{unsigned_less, unsigned_tied, unsigned_at_most, fields_at_most, fields_tied}
+use Rattle.order.proofs.Fields.{unsigned_less, unsigned_tied, unsigned_at_most, fields_at_most}
 use Rattle.order.proofs.Members.{first_at_most, pushed_has, pushed_has_new, pushed_only}
-use Rattle.order_tests.specs.Fields.{by_two, by_three, Before, Sooner}
+use Rattle.order_tests.specs.Fields.{by_two, by_three, Lowest, Before, Sooner}
 use Rattle.order_tests.specs.declared.ByTwo.{ByTwo}
 use Rattle.order_tests.specs.declared.ByThree.{ByThree}
+use Rattle.order_tests.specs.contracts.ByTwoOrd.TheImpl as two
+use Rattle.order_tests.specs.contracts.ByThreeOrd.TheImpl as three
 
 by_value : IsTotalOrder (on (λ (x : ByTwo). x.value) nat_cmp)
 by_value = on_total (λ (x : ByTwo). x.value) nat_cmp_total
@@ -45,24 +50,25 @@ sooner x y h = ⊎_elim
     ))
     (fields_at_most by_f (then_total by_h by_row) x y h)
 
--- entries that are tied are equal
-pub same_two : (x y : ByTwo) → then_cmp (on (λ (z : ByTwo). z.value) nat_cmp) (on (λ (z : ByTwo). z.number) nat_cmp) x y ≡ Equal → x ≡ y
-same_two x y e =
-    let t = fields_tied by_value by_number x y e in
-    let p = unsigned_tied _ _ t.0 in
-    let q = unsigned_tied _ _ t.1 in
-    (λ i. record { value = p i; number = q i })
-
--- What is first of two entries that were pushed is one of them, and at most each.
-module _ {X : Type 0} {R : X → X → Ordering} (g h k : Heap X) (a b x : X) (none : g.len ≡ 0) (p : Pushed g a h) (q : Pushed h b k) (f : First R k x) where
-  from_none : Has (held g) x → ⊥
+-- What is first of two entries that were pushed is the lowest of them.
+module _ {X : Type 0} {c : ord.Ghosts X} {c' : eq.Ghosts X} {c'' : partial.Ghosts X} (g h k : Heap X c c' c'') (a b x : X) (none : g.len ≡ 0) (p : Pushed g a h) (q : Pushed h b k) (f : First c.cmp k x) where
+  from_none : Contains (held g) x → ⊥
   from_none m = omega (arith, simp length-take at m.1)
 
-  pub one_of_two : (x ≡ a) ⊎ (x ≡ b)
-  one_of_two = ⊎_elim inr (λ m. ⊎_elim inl (λ n. absurd (from_none n)) (pushed_only p x m)) (pushed_only q x f.has)
+  pub first_lowest : Lowest c.cmp a b x
+  first_lowest = record {
+    one = ⊎_elim inr (λ m. ⊎_elim inl (λ n. absurd (from_none n)) (pushed_only p x m)) (pushed_only q x f.has);
+    at_most_first = λ o. first_at_most f o a (pushed_has q a (pushed_has_new p));
+    at_most_second = λ o. first_at_most f o b (pushed_has_new q);
+  }
 
-  pub at_most_first : (o : IsTotalOrder R) → AtMost o x a
-  at_most_first o = first_at_most f o a (pushed_has q a (pushed_has_new p))
+-- what the lowest of two says by their fields
+module _ (a b : ByTwo) where
+  pub lowest_before : (r : Option ByTwo) → MatchOption r ⊥ (Lowest (two.ghosts).cmp a b) → MatchOption r ⊥ (λ x. ((x ≡ a) ⊎ (x ≡ b)) × Before x a × Before x b)
+  lowest_before None l = l
+  lowest_before (Some x) l = (l.one, before x a (l.at_most_first by_two), before x b (l.at_most_second by_two))
 
-  pub at_most_second : (o : IsTotalOrder R) → AtMost o x b
-  at_most_second o = first_at_most f o b (pushed_has_new q)
+module _ (a b : ByThree) where
+  pub lowest_sooner : (r : Option ByThree) → MatchOption r ⊥ (Lowest (three.ghosts).cmp a b) → MatchOption r ⊥ (λ x. ((x ≡ a) ⊎ (x ≡ b)) × Sooner x a × Sooner x b)
+  lowest_sooner None l = l
+  lowest_sooner (Some x) l = (l.one, sooner x a (l.at_most_first by_three), sooner x b (l.at_most_second by_three))

@@ -1,8 +1,8 @@
 // Two entry types with orders of their own, and heaps of them.
 #![tactic(auto)]
 
-ghost use Rattle.std.specs.Prelude.{◌≡◌, ◌⊎◌, MatchOption};
-ghost use Rattle.order_tests.specs.Fields.{Before, Sooner};
+ghost use Rattle.std.specs.Prelude.{◌≡◌, ◌≤◌, ◌⊎◌, MatchOption, length};
+ghost use Rattle.order_tests.specs.Fields.{Lowest, Before, Sooner};
 
 pub mod queue;
 
@@ -23,26 +23,29 @@ pub struct ByTwo {
     pub number: u32,
 }
 
-// The lower of two, by their fields.
-pub fn lower_of(a: ByTwo, b: ByTwo) -> Option<ByTwo>
-    ensures { MatchOption result ⊥ (λ x. ((x ≡ a) ⊎ (x ≡ b)) × Before x a × Before x b) }
+// The lower of two, as a heap of both tells it.
+fn lowest_of<T: Ord + Copy>(room: &mut [T], a: T, b: T) -> Option<T>
+    requires { 2 ≤ length room.old }
+    ensures { MatchOption result ⊥ (Lowest T.cmp a b) }
 {
-    let mut room = [a; 2];
-    let mut heap = Heap::new(&mut room);
+    let mut heap = Heap::new(room);
     let _ = heap.push(a);
     let _ = heap.push(b);
     heap.first()
 }
 
-// The same of entries with three fields.
+// The lower of two, by their fields.
+pub fn lower_of(a: ByTwo, b: ByTwo) -> Option<ByTwo>
+    ensures { MatchOption result ⊥ (λ x. ((x ≡ a) ⊎ (x ≡ b)) × Before x a × Before x b) }
+{
+    lowest_of(&mut [a; 2], a, b)
+}
+
+// The same of entries with three fields. Both are the generic one, with what it means in their fields.
 pub fn sooner_of(a: ByThree, b: ByThree) -> Option<ByThree>
     ensures { MatchOption result ⊥ (λ x. ((x ≡ a) ⊎ (x ≡ b)) × Sooner x a × Sooner x b) }
 {
-    let mut room = [a; 2];
-    let mut heap = Heap::new(&mut room);
-    let _ = heap.push(a);
-    let _ = heap.push(b);
-    heap.pop()
+    lowest_of(&mut [a; 2], a, b)
 }
 
 // What stands past the entries held is kept.

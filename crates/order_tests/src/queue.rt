@@ -1,17 +1,17 @@
 // A struct that holds a heap, with facts of its own on the entries held.
 ghost use Rattle.std.specs.Prelude.{◌≡◌, IfSome, MatchBool, MatchOption};
-ghost use Rattle.order.specs.Laws.{Lawful, held, Same, First, Popped};
+ghost use Rattle.order.specs.Laws.{held, Same, First, Popped};
 ghost use Rattle.order_tests.specs.Numbered.{orders, Small, Added, Declined, Cleared};
-ghost use Rattle.std.specs.List.{AllByRecursion};
+ghost use Rattle.std.specs.List.{All};
 
 use crate::ByTwo;
 use order::Heap;
 
+// Like `Heap`, it has no `impl Model`, with which a caller would not learn what the slice holds in the end.
 #[derive(Drop)]
 pub struct Queue<'a> {
     heap: Heap<'a, ByTwo>,
-    ghost lawful: { Lawful orders heap },
-    ghost small: { ∥ AllByRecursion Small (held heap) ∥₁ },
+    ghost small: { All Small (held heap) },
 }
 
 impl<'a> Queue<'a> {
@@ -31,12 +31,7 @@ impl<'a> Queue<'a> {
         ensures lender { self.new.heap.entries.ghost_name ≡ self.old.heap.entries.ghost_name }
         ensures added { MatchBool result (Added self.old.heap x self.new.heap) (Declined self.old.heap x self.new.heap) }
     {
-        if x.number < 100 {
-            let added = self.heap.push(x);
-            added.is_ok()
-        } else {
-            false
-        }
+        x.number < 100 && self.heap.push(x).is_ok()
     }
 
     // Takes out the lowest entry.

@@ -1,6 +1,4 @@
 ghost use Rattle.std.specs.Prelude.{◌<◌};
-ghost use Rattle.order.specs.Laws.{Lawful};
-ghost use Rattle.order_tests.specs.Numbered.{orders_three};
 
 use crate::{ByThree, ByTwo};
 use order::Heap;
@@ -66,16 +64,13 @@ fn full_refuses(rt: HostRuntime) {
     assert!(rt; heap.len() == 2);
 }
 
-// A heap and a sorted copy of what it holds, filled up with the highest entry.
+// A heap and a sorted copy of what it holds, filled up with the highest entry: an array, which is sorted without asking for memory.
 fn pushes(
     rt: &impl Abort,
     heap: &mut Heap<ByThree>,
     copy: &mut [ByThree; 8],
     x: ByThree,
-) -> Result<(), Fail>
-    requires { Lawful orders_three heap.old }
-    ensures { Lawful orders_three heap.new }
-{
+) -> Result<(), Fail> {
     let room = heap.len() < 8;
     assert!(rt; heap.push(x).is_ok() == room);
     if room {
@@ -85,10 +80,7 @@ fn pushes(
     Ok(())
 }
 
-fn pops(rt: &impl Abort, heap: &mut Heap<ByThree>, copy: &mut [ByThree; 8]) -> Result<(), Fail>
-    requires { Lawful orders_three heap.old }
-    ensures { Lawful orders_three heap.new }
-{
+fn pops(rt: &impl Abort, heap: &mut Heap<ByThree>, copy: &mut [ByThree; 8]) -> Result<(), Fail> {
     let want = if heap.is_empty() { None } else { Some(copy[0]) };
     assert!(rt; heap.first() == want);
     assert!(rt; heap.pop() == want);
@@ -104,9 +96,7 @@ fn lowers(
     i: usize,
     x: ByThree,
 ) -> Result<(), Fail>
-    requires within { i < 8 }
-    requires lawful { Lawful orders_three heap.old }
-    ensures { Lawful orders_three heap.new }
+    requires { i < 8 }
 {
     let old = copy[i];
     let may = i < heap.len() && x <= old;
@@ -123,10 +113,7 @@ fn turns(
     heap: &mut Heap<ByThree>,
     copy: &mut [ByThree; 8],
     seed: u64,
-) -> Result<(), Fail>
-    requires { Lawful orders_three heap.old }
-    ensures { Lawful orders_three heap.new }
-{
+) -> Result<(), Fail> {
     let x = some_three(seed);
     match (seed >> 60) % 4 {
         0 => pops(rt, heap, copy),

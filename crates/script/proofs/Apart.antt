@@ -1,17 +1,14 @@
 -- A text with a word is not blank.
---   never_true   false is not true
---   split        characters that are all white do not spell white space, then a word, then what is left
---   apart        no text is blank and has a next word
-use Rattle.std.proofs.Common.{◌≡◌, ℕ, ◌<◌, true, false, not, List, [], ◌∷◌, ◌++◌, length, sym, ap, ◌∙◌, subst, arith}
+--   split   characters that are all white do not spell white space, then a word, then what is left
+--   apart   no text is blank and has a next word
+use Rattle.std.proofs.Common.{◌≡◌, ℕ, ◌<◌, not, List, [], ◌∷◌, ◌++◌, length, sym, ap, ◌∙◌, subst, arith}
 use lib.Utf8.{encode, encodes}
+use Rattle.std.proofs.lemmas.Bool.{false≢true}
 use Rattle.std.proofs.lemmas.List.{append_assoc}
 use Rattle.std.proofs.lemmas.Str.{cons_from_encodes}
 use Rattle.std.specs.Char.{is_whitespace, is_not_whitespace}
 use Rattle.std.specs.Str.{NonePass}
 use Rattle.script.specs.Unread.{Blank, Next}
-
-pub never_true : false ≡ true → ⊥
-never_true e = let z : ◌≡◌ {A = ℕ} 0 1 = cc in omega arith
 
 split : (cs gs ws left : List ℕ) → encodes cs ≡ encodes gs ++ (encodes ws ++ left) → 0 < length (encodes ws) → NonePass is_not_whitespace cs → NonePass is_whitespace ws → ⊥
 split cs (g ∷ gs) ws left e some all none =
@@ -19,7 +16,7 @@ split cs (g ∷ gs) ws left e some all none =
     split from.0 gs ws left from.2 some (subst (NonePass is_not_whitespace) from.1 all).1 none
 split cs [] (w ∷ ws) left e some all none =
     let from = cons_from_encodes cs (encodes ws ++ left) w (e ∙ append_assoc (encode w) (encodes ws) left) in
-    never_true (sym (subst (NonePass is_not_whitespace) from.1 all).0 ∙ ap not none.0)
+    false≢true (sym (subst (NonePass is_not_whitespace) from.1 all).0 ∙ ap not none.0)
 split cs [] [] left e some all none = omega arith
 
 pub apart : (s word left : List ℕ) → Next s word left → Blank s → ⊥

@@ -1,1 +1,6 @@
 mod Apart
+mod Buffers
+mod Exact
+mod Lines
+mod Printing
+mod Steps

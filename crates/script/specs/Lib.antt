@@ -1,2 +1,11 @@
+pub mod Answers
+pub mod Asked
 pub mod Filled
+pub mod Lines
+pub mod NamedEstimatorLemmas
+pub mod Names
+pub mod Said
+pub mod Taken
+pub mod Texts
+pub mod Told
 pub mod Unread

@@ -1,14 +1,19 @@
 // A block of the input: the tables that its lines fill, and what it then asks, in order.
-ghost use Rattle.std.specs.Prelude.{◌≡◌, true, false, [], ◌∷◌, ◌++◌, is_ok, if◌then◌else◌};
+ghost use Rattle.std.specs.Prelude.{◌≡◌, true, false, [], ◌∷◌, ◌++◌, is_ok, IfOk, OnErr, if◌then◌else◌};
 ghost use Rattle.tables.specs.Problem.{contents};
 ghost use Rattle.script.specs.Filled.{filled, asks, added, empty, closes};
+ghost use Rattle.script.specs.Lines.{Says};
+ghost use Rattle.script.specs.Taken.{Takes, flow_of};
+ghost use Rattle.script.specs.declared.directive.Line.{Line};
 
 use crate::directive::*;
 use crate::records::*;
 use std::alloc::{AllocError, Global};
+use std::ops::ControlFlow;
 use tables::*;
 
-// The tables are closed once the block asks for their check.
+// The tables are closed once the block asks for their check. `closed` stands beside what is asked, which would have to be searched
+// at every line, and tells a block that had no memory to hold its `accept` as closed too.
 #[derive(Drop)]
 pub struct Block {
     head: Head,
@@ -61,20 +66,24 @@ impl Block {
         self.asked.as_slice()
     }
 
-    // Takes in a line, by its number; answers whether the line ends the block.
-    pub fn take(&mut self, heap: Global, number: u64, bytes: &[u8]) -> Result<bool, AllocError> {
-        match read_line(heap, number, bytes)? {
-            Line::Blank => Ok(false),
-            Line::Fill(record) => {
-                self.fill(number, record)?;
-                Ok(false)
-            }
-            Line::Ask(directive) => {
-                self.ask(directive)?;
-                Ok(false)
-            }
-            Line::End => Ok(true),
+    // Takes in a line, by its number, where `LMCUT` says whether LM-cut is served; breaks off where the line ends the block. Without
+    // memory the tables, and what is asked, stay as they were.
+    pub fn take<const LMCUT: bool>(
+        &mut self,
+        heap: Global,
+        number: u64,
+        bytes: &[u8],
+    ) -> Result<ControlFlow<()>, AllocError>
+        ensures took { IfOk result (λ flow. (line : Line) × Says LMCUT number bytes.now line × Takes self.old number line self.new × (flow ≡ flow_of line)) }
+        ensures failed { OnErr result ((filled self.new ≡ filled self.old) × (asks self.new ≡ asks self.old)) }
+    {
+        match read_line::<LMCUT>(heap, number, bytes)? {
+            Line::Blank => {}
+            Line::Fill(record) => self.fill(number, record)?,
+            Line::Ask(directive) => self.ask(directive)?,
+            Line::End => return Ok(ControlFlow::Break(())),
         }
+        Ok(ControlFlow::Continue(()))
     }
 
     // Takes in a record from a line: into the tables, or, where they are closed, as a malformed line.

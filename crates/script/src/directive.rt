@@ -1,4 +1,8 @@
 // What a line says.
+ghost use Rattle.std.specs.Prelude.{true, codes, IfOk};
+ghost use Rattle.script.specs.Lines.{StateWritten, Directs, Reads, Says};
+ghost use Rattle.script.specs.Unread.{unread};
+
 use crate::estimators::*;
 use crate::records::*;
 use crate::words::*;
@@ -25,85 +29,100 @@ pub enum Line {
     End,
 }
 
-// What the line with a number says.
-pub fn read_line(heap: Global, number: u64, bytes: &[u8]) -> Result<Line, AllocError> {
-    let Ok(text) = std::str::from_utf8(bytes) else {
-        return Ok(Line::Ask(Directive::Malformed(number)));
-    };
-    match read_text(heap, text) {
-        Ok(line) => Ok(line),
-        Err(LineFault::Malformed) => Ok(Line::Ask(Directive::Malformed(number))),
-        Err(LineFault::NoMemory) => Err(AllocError),
-    }
+// What the line with a number says, where `LMCUT` says whether LM-cut is served.
+pub fn read_line<const LMCUT: bool>(
+    heap: Global,
+    number: u64,
+    bytes: &[u8],
+) -> Result<Line, AllocError>
+    ensures { IfOk result (λ line. Says LMCUT number bytes.now line) }
+{
+    read_bytes::<LMCUT>(heap, bytes).or_else(|fault| match fault {
+        LineFault::Malformed => Ok(Line::Ask(Directive::Malformed(number))),
+        LineFault::NoMemory(error) => Err(error),
+    })
 }
 
-// What a line is for, by its first word.
-#[derive(Clone, Copy)]
-enum Kind {
-    Head,
-    Quantity,
-    Condition,
-    Move,
-    Link,
-    Accept,
-    Check,
-    Est,
-    Grounds,
-    Later,
-    End,
+fn read_bytes<const LMCUT: bool>(heap: Global, bytes: &[u8]) -> Result<Line, LineFault>
+    ensures { IfOk result (λ line. Reads LMCUT bytes.now line) }
+{
+    let text = std::str::from_utf8(bytes).map_err(|_| LineFault::Malformed)?;
+    read_text::<LMCUT>(heap, text)
 }
 
-// The first words of lines.
-static NAMES: [(&str, Kind); 16] = [
-    ("head", Kind::Head),
-    ("q", Kind::Quantity),
-    ("c", Kind::Condition),
-    ("m", Kind::Move),
-    ("l", Kind::Link),
-    ("accept", Kind::Accept),
-    ("check", Kind::Check),
-    ("est", Kind::Est),
-    ("grounds", Kind::Grounds),
-    ("open", Kind::Later),
-    ("advance", Kind::Later),
-    ("bound", Kind::Later),
-    ("plan", Kind::Later),
-    ("rows", Kind::Later),
-    ("lines", Kind::Later),
-    ("end", Kind::End),
-];
-
-// What a text says.
-fn read_text(heap: Global, text: &str) -> Result<Line, LineFault> {
+// What a text says, by its first word.
+fn read_text<const LMCUT: bool>(heap: Global, text: &str) -> Result<Line, LineFault>
+    ensures { IfOk result (λ line. Reads LMCUT text.now line) }
+{
     let mut words = Words::new(text);
     let Some(name) = words.word() else {
         return Ok(Line::Blank);
     };
-    match entry(&NAMES, name) {
-        Some(kind) => read_rest(heap, kind, words),
-        None => Err(LineFault::Malformed),
-    }
-}
-
-// What a line of a kind says, by the words after the first.
-fn read_rest(heap: Global, kind: Kind, words: Words) -> Result<Line, LineFault> {
-    match kind {
-        Kind::Head => read_head(words),
-        Kind::Quantity => read_quantity(words),
-        Kind::Condition => read_condition(words),
-        Kind::Move => read_move(words),
-        Kind::Link => read_link(words),
-        Kind::Accept => {
-            words.finish()?;
-            Ok(Line::Ask(Directive::Accept))
-        }
-        Kind::Check => Ok(Line::Ask(Directive::Check(words.numbers(heap)?))),
-        Kind::Est => read_est(words),
-        Kind::Grounds => read_grounds(words),
-        Kind::Later => Ok(Line::Ask(Directive::Later)),
-        Kind::End => {
+    match name {
+        "head" => Ok(Line::Fill(read_head(words)?)),
+        "q" => Ok(Line::Fill(read_quantity(words)?)),
+        "c" => Ok(Line::Fill(read_condition(words)?)),
+        "m" => Ok(Line::Fill(read_move(words)?)),
+        "l" => Ok(Line::Fill(read_link(words)?)),
+        "end" => {
             words.finish()?;
             Ok(Line::End)
         }
+        _ => Ok(Line::Ask(read_directive::<LMCUT>(heap, name, words)?)),
     }
+}
+
+// The directive of a name, with the words that follow it.
+fn read_directive<const LMCUT: bool>(
+    heap: Global,
+    name: &str,
+    words: Words,
+) -> Result<Directive, LineFault>
+    ensures { IfOk result (λ d. Directs LMCUT name.now (unread words.entry) d) }
+{
+    match name {
+        "accept" => {
+            words.finish()?;
+            Ok(Directive::Accept)
+        }
+        "check" => Ok(Directive::Check(words.numbers(heap)?)),
+        "est" => read_est::<LMCUT>(words),
+        "grounds" if LMCUT => read_grounds(words),
+        "grounds" => Ok(Directive::Later),
+        "open" | "advance" | "bound" | "plan" | "rows" | "lines" => Ok(Directive::Later),
+        _ => Err(LineFault::Malformed),
+    }
+}
+
+// `est E FACTS V1 .. V16`.
+fn read_est<const LMCUT: bool>(mut words: Words) -> Result<Directive, LineFault>
+    ensures { IfOk result (λ d. Directs LMCUT (codes "est") (unread words.entry) d) }
+{
+    let asked: Asked = words.number()?;
+    let state = read_state(words)?;
+    if asked.needs_lmcut() && !LMCUT {
+        return Ok(Directive::Later);
+    }
+    Ok(Directive::Est(asked, state))
+}
+
+// `grounds LEN FACTS V1 .. V16`.
+fn read_grounds(mut words: Words) -> Result<Directive, LineFault>
+    ensures { IfOk result (λ d. Directs true (codes "grounds") (unread words.entry) d) }
+{
+    let room = words.number()?;
+    Ok(Directive::Grounds(room, read_state(words)?))
+}
+
+// The rest of the words as a record: the word of facts and sixteen values.
+fn read_state(mut words: Words) -> Result<State, LineFault>
+    ensures { IfOk result (λ state. StateWritten (unread words.entry) state) }
+{
+    let facts = words.number()?;
+    let mut values = [0; 16];
+    for value in values.iter_mut() {
+        *value = words.number()?;
+    }
+    words.finish()?;
+    Ok(State { facts, values })
 }

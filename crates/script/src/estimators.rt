@@ -1,7 +1,15 @@
-// The estimators that a line names, and the directives about a record: `est`, which asks an estimator, and `grounds`, which asks
-// for LM-cut's landmark records.
-use crate::directive::*;
-use crate::words::*;
+// The estimators that a line may name, and what they answer.
+ghost use Rattle.std.specs.Prelude.{◌≡◌};
+ghost use Rattle.script.specs.Asked.{basic_answer, asked_answer};
+ghost use Rattle.script.specs.NamedEstimatorLemmas.{basic_sound, basic_plain, asked_sound, asked_plain};
+ghost use Rattle.script.specs.Names.{basic_name, name_of, NamedBy, is_lmcut, needs_lmcut};
+
+use crate::words::LineFault;
+use estimate::estimate::Estimate;
+use estimate::estimator::Estimator;
+use estimate::simple::*;
+use std::str::FromStr;
+use task::accepted::Task;
 use task::state::State;
 
 // An estimator that is made of no others.
@@ -19,73 +27,83 @@ pub enum Asked {
     Larger(Basic, Basic),
 }
 
-// The names of estimators.
-static NAMES: [(&str, Asked); 12] = [
-    ("zero", Asked::One(Basic::Zero)),
-    ("floor", Asked::One(Basic::Floor)),
-    ("lmcut", Asked::One(Basic::LmCut)),
-    ("larger(zero,zero)", Asked::Larger(Basic::Zero, Basic::Zero)),
-    (
-        "larger(zero,floor)",
-        Asked::Larger(Basic::Zero, Basic::Floor),
-    ),
-    (
-        "larger(zero,lmcut)",
-        Asked::Larger(Basic::Zero, Basic::LmCut),
-    ),
-    (
-        "larger(floor,zero)",
-        Asked::Larger(Basic::Floor, Basic::Zero),
-    ),
-    (
-        "larger(floor,floor)",
-        Asked::Larger(Basic::Floor, Basic::Floor),
-    ),
-    (
-        "larger(floor,lmcut)",
-        Asked::Larger(Basic::Floor, Basic::LmCut),
-    ),
-    (
-        "larger(lmcut,zero)",
-        Asked::Larger(Basic::LmCut, Basic::Zero),
-    ),
-    (
-        "larger(lmcut,floor)",
-        Asked::Larger(Basic::LmCut, Basic::Floor),
-    ),
-    (
-        "larger(lmcut,lmcut)",
-        Asked::Larger(Basic::LmCut, Basic::LmCut),
-    ),
-];
+impl FromStr for Basic {
+    type Err = LineFault;
 
-// A record: the word of facts and sixteen values.
-fn read_state(words: &mut Words) -> Result<State, LineFault> {
-    let facts = words.number()?;
-    let mut values = [0; 16];
-    for i in 0..16 {
-        values[i] = words.number()?;
+    ghost from_str_gives = { NamedBy basic_name };
+
+    fn from_str(name: &str) -> Result<Basic, LineFault> {
+        match name {
+            "zero" => Ok(Basic::Zero),
+            "floor" => Ok(Basic::Floor),
+            "lmcut" => Ok(Basic::LmCut),
+            _ => Err(LineFault::Malformed),
+        }
     }
-    Ok(State { facts, values })
 }
 
-// `est E FACTS V1 .. V16`.
-pub(crate) fn read_est(mut words: Words) -> Result<Line, LineFault> {
-    let Some(name) = words.word() else {
-        return Err(LineFault::Malformed);
-    };
-    let Some(asked) = entry(&NAMES, name) else {
-        return Err(LineFault::Malformed);
-    };
-    let state = read_state(&mut words)?;
-    words.finish()?;
-    Ok(Line::Ask(Directive::Est(asked, state)))
+impl FromStr for Asked {
+    type Err = LineFault;
+
+    ghost from_str_gives = { NamedBy name_of };
+
+    fn from_str(name: &str) -> Result<Asked, LineFault> {
+        let Some(rest) = name.strip_prefix("larger(") else {
+            return Ok(Asked::One(name.parse()?));
+        };
+        let names = rest.strip_suffix(")").ok_or(LineFault::Malformed)?;
+        let (first, second) = names.split_once(',').ok_or(LineFault::Malformed)?;
+        Ok(Asked::Larger(first.parse()?, second.parse()?))
+    }
 }
 
-// `grounds LEN FACTS V1 .. V16`.
-pub(crate) fn read_grounds(mut words: Words) -> Result<Line, LineFault> {
-    let room = words.number()?;
-    let state = read_state(&mut words)?;
-    words.finish()?;
-    Ok(Line::Ask(Directive::Grounds(room, state)))
+impl Basic {
+    fn is_lmcut(self) -> bool
+        ensures { result ≡ is_lmcut self }
+    {
+        matches!(self, Basic::LmCut)
+    }
+}
+
+impl Asked {
+    // Whether the answer rests on LM-cut.
+    pub(crate) fn needs_lmcut(self) -> bool
+        ensures { result ≡ needs_lmcut self }
+    {
+        match self {
+            Asked::One(basic) => basic.is_lmcut(),
+            Asked::Larger(first, second) => first.is_lmcut() || second.is_lmcut(),
+        }
+    }
+}
+
+impl Estimator for Basic {
+    ghost answer = { basic_answer };
+
+    ghost sound = { basic_sound };
+
+    ghost plain = { basic_plain };
+
+    fn ask(&self, task: &Task, state: &State) -> Estimate {
+        match self {
+            Basic::Zero => Zero.ask(task, state),
+            Basic::Floor => Floor.ask(task, state),
+            Basic::LmCut => lmcut::estimator::LmCut.ask(task, state),
+        }
+    }
+}
+
+impl Estimator for Asked {
+    ghost answer = { asked_answer };
+
+    ghost sound = { asked_sound };
+
+    ghost plain = { asked_plain };
+
+    fn ask(&self, task: &Task, state: &State) -> Estimate {
+        match *self {
+            Asked::One(basic) => basic.ask(task, state),
+            Asked::Larger(first, second) => LargerOf { first, second }.ask(task, state),
+        }
+    }
 }

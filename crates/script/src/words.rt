@@ -1,6 +1,8 @@
 // The words of a line, read one after another. Words are parted by white space.
-ghost use Rattle.std.specs.Prelude.{◌≡◌, is_ok, Decides, MatchOption};
+ghost use Rattle.std.specs.Prelude.{◌≡◌, is_ok, Decides, MatchOption, IfOk, alloc_error};
+ghost use Rattle.script.specs.Lines.{Field, Three, Moves};
 ghost use Rattle.script.specs.Unread.{unread, Blank, Next, More, MalformedWhere, ReadsNext};
+ghost use Rattle.script.specs.declared.words.LineFault.TheVariants.{NoMemory};
 
 use std::alloc::{AllocError, AllocFailed, Global};
 use std::str::{FromStr, SplitWhitespace};
@@ -9,18 +11,22 @@ use std::str::{FromStr, SplitWhitespace};
 #[derive(Drop)]
 pub enum LineFault {
     Malformed,
-    NoMemory,
+    NoMemory(AllocError),
 }
 
 impl From<AllocError> for LineFault {
-    fn from(_e: AllocError) -> LineFault {
-        LineFault::NoMemory
+    ghost from_gives = { λ error fault. fault ≡ NoMemory error };
+
+    fn from(error: AllocError) -> LineFault {
+        LineFault::NoMemory(error)
     }
 }
 
 impl<T: Drop> From<AllocFailed<T>> for LineFault {
-    fn from(_e: AllocFailed<T>) -> LineFault {
-        LineFault::NoMemory
+    ghost from_gives = { λ failed fault. fault ≡ NoMemory alloc_error };
+
+    fn from(failed: AllocFailed<T>) -> LineFault {
+        LineFault::NoMemory(failed.into())
     }
 }
 
@@ -45,19 +51,15 @@ impl<'a> Words<'a> {
         self.rest.next()
     }
 
-    // The next word as a number. A word that is missing, is no number or does not fit the type is malformed.
+    // The next word as a number, or as what else its type reads in a word. A word that is missing, is no number or does not fit
+    // the type is malformed.
     pub fn number<N: FromStr>(&mut self) -> Result<N, LineFault>
     where
         N::Err: Drop,
         ensures { ReadsNext N.FromStr.from_str_gives (unread self.old) (unread self.new) result }
     {
-        let Some(word) = self.word() else {
-            return Err(LineFault::Malformed);
-        };
-        match word.parse::<N>() {
-            Ok(n) => Ok(n),
-            Err(_) => Err(LineFault::Malformed),
-        }
+        let word = self.word().ok_or(LineFault::Malformed)?;
+        word.parse().map_err(|_| LineFault::Malformed)
     }
 
     // The rest of the words as three numbers.
@@ -68,28 +70,20 @@ impl<'a> Words<'a> {
         A::Err: Drop,
         B::Err: Drop,
         C::Err: Drop,
+        ensures { IfOk result (λ x. Three (Field A.FromStr.from_str_gives) (Field B.FromStr.from_str_gives) (Field C.FromStr.from_str_gives) (unread self.entry) x.0 x.1 x.2) }
     {
-        let Ok(first) = self.number() else {
-            return Err(LineFault::Malformed);
-        };
-        let Ok(second) = self.number() else {
-            return Err(LineFault::Malformed);
-        };
-        let Ok(third) = self.number() else {
-            return Err(LineFault::Malformed);
-        };
+        let three = (self.number()?, self.number()?, self.number()?);
         self.finish()?;
-        Ok((first, second, third))
+        Ok(three)
     }
 
     // The rest of the words as numbers, as many as there are.
-    pub(crate) fn numbers(self, heap: Global) -> Result<Vec<u32>, LineFault> {
+    pub(crate) fn numbers(self, heap: Global) -> Result<Vec<u32>, LineFault>
+        ensures { IfOk result (λ list. Moves (unread self.entry) list.items) }
+    {
         let mut list = Vec::new(heap);
         for word in self.rest {
-            match word.parse::<u32>() {
-                Ok(n) => list.push(n)?,
-                Err(_) => return Err(LineFault::Malformed),
-            }
+            list.push(word.parse().map_err(|_| LineFault::Malformed)?)?;
         }
         Ok(list)
     }
@@ -104,14 +98,4 @@ impl<'a> Words<'a> {
             Some(_) => Err(LineFault::Malformed),
         }
     }
-}
-
-// What a table of words has for a word, if the word is there.
-pub(crate) fn entry<T: Copy>(table: &[(&str, T)], word: &str) -> Option<T> {
-    for (known, meaning) in table {
-        if *known == word {
-            return Some(*meaning);
-        }
-    }
-    None
 }

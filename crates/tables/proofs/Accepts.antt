@@ -1,8 +1,9 @@
 -- A task is accepted exactly when its tables keep the rules.
-use Rattle.std.proofs.Common.{◌≡◌, ℕ, ◌+◌, ◌^◌, ◌<◌, ◌≤◌, Bool, true, false, cond, not, ◌&&◌, T, eqb, ltb, leb, ◌⊎◌, List, [], ◌∷◌, length, ℤ, pos, nat_abs, ◌≤ℤ◌, is_some, is_ok, Some, None, Decides, Option, refl, ap, ◌∙◌, inl, inr, ⊎_elim, arith}
+use Rattle.std.proofs.Common.{◌≡◌, ℕ, ◌+◌, ◌^◌, ◌<◌, ◌≤◌, Bool, true, false, cond, not, ◌&&◌, T, eqb, leb, ◌⊎◌, List, [], ◌∷◌, length, ℤ, pos, nat_abs, ◌≤ℤ◌, is_some, is_ok, Some, None, Decides, Option, refl, ap, ◌∙◌, inl, inr, ⊎_elim, arith}
 use lib.Signed.{le_z}
-use Rattle.std.proofs.lemmas.Bool.{true≢false, leb-true, ltb-true, le-leb, lt-ltb, eqb-true, ne_eqb, eqb-false, and_from, or_parts, or_from, not-true, not_from_false, false≢true, cond_both, cases_eq}
-use Rattle.std.proofs.lemmas.Bool.Decides.{nat_tests, Decides-and, Decides-or, Decides-eqb}
+use Rattle.std.proofs.lemmas.Bool.{true≢false, leb-true, le-leb, lt-ltb, eqb-true, ne_eqb, eqb-false, and_from, or_parts, or_from, not-true, not_from_false, cond_both, cases_eq}
+use Rattle.std.proofs.lemmas.Bool.Decides.{nat_tests, Decides-and, Decides-or, Decides-eqb, Decides-ltb}
+use Rattle.std.proofs.lemmas.Float.{T_from_true}
 use Rattle.std.specs.List.{AllByRecursion}
 use Rattle.tables.specs.Chains.{Visit, link, missing, visits, links_of, chain}
 use Rattle.tables.specs.Check.{told, ◌or◌, unless, owned, at_link, among, also, quantity_keeps, kind_fits, subject_fits, amount_fits, next_fits, names_quantity, link_fault, visits_fault, chain_fault, each_fault, sizes_fault, quantity_fault, condition_fault, move_fault, first_fault, accepted}
@@ -50,19 +51,12 @@ clear_each f P c k (x ∷ xs) = clear_or (f k x) (each_fault f (k + 1) xs) (c k 
 decides_nat_le : (a b : ℕ) → Decides (leb a b) (a ≤ b)
 decides_nat_le a b = (leb-true a b, le-leb a b)
 
-decides_nat_lt : (a b : ℕ) → Decides (ltb a b) (a < b)
-decides_nat_lt a b = (ltb-true a b, lt-ltb a b)
-
-T-from : (b : Bool) → b ≡ true → T b
-T-from true e = tt
-T-from false e = absurd (false≢true e)
-
 from-T : (b : Bool) → T b → b ≡ true
 from-T true t = refl
 from-T false t = absurd t
 
 pub decides_int_le : (a b : ℤ) → Decides (le_z a b) (a ≤ℤ b)
-decides_int_le a b = (λ e. record { le = T-from (le_z a b) e }, λ h. from-T (le_z a b) h.le)
+decides_int_le a b = (λ e. record { le = T_from_true (le_z a b) e }, λ h. from-T (le_z a b) h.le)
 
 decides_quantity : (q : quantity.Quantity) → Decides (quantity_keeps q) (QuantityKeeps q)
 decides_quantity q =
@@ -156,7 +150,7 @@ clear_fault p r before n l = (there, back)
     back t =
         let k = t.keeps in
         let range = kind_range r l.kind k.kind in
-        let next : next_fits n l.next ≡ true = (Decides-or _ _ (Decides-eqb l.next 0) (decides_nat_lt n l.next)).1 k.next in
+        let next : next_fits n l.next ≡ true = (Decides-or _ _ (Decides-eqb l.next 0) (Decides-ltb n l.next)).1 k.next in
         let subject = subject_told p r l.kind l.subject l.amount range.0 range.1 k.quantity k.condition k.fact in
         let amount = amount_told p r l.kind l.subject l.amount k.weight k.change in
         tests_pass _ _ _ _ _ ((decides_kind r l.kind).1 k.kind) subject amount (not_from_false _ t.fresh) next
@@ -228,7 +222,7 @@ clear_chain p r n =
 clear_sizes : (p : Problem) → Clear (sizes_fault p) ((p.head.facts ≤ 64) × ((length p.quantities ≤ 16) × ((length p.conditions ≤ 64) × ((length p.moves ≤ 256) × ((length p.links ≤ 4096) × (p.head.start < 2 ^ p.head.facts))))))
 clear_sizes p =
     clear_or _ _ (clear_unless _ _ (decides_nat_le _ 64)) (clear_or _ _ (clear_unless _ _ (decides_nat_le _ 16)) (clear_or _ _ (clear_unless _ _ (decides_nat_le _ 64))
-    (clear_or _ _ (clear_unless _ _ (decides_nat_le _ 256)) (clear_or _ _ (clear_unless _ _ (decides_nat_le _ 4096)) (clear_unless _ _ (decides_nat_lt _ _))))))
+    (clear_or _ _ (clear_unless _ _ (decides_nat_le _ 256)) (clear_or _ _ (clear_unless _ _ (decides_nat_le _ 4096)) (clear_unless _ _ (Decides-ltb _ _))))))
 
 clear_condition : (p : Problem) (k : ℕ) (c : condition.Condition) → Clear (condition_fault p k c) (ConditionKeeps p c)
 clear_condition p k c =

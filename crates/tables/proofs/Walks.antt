@@ -1,6 +1,7 @@
 -- Walks of chains: what the code may step over, and what it meets at a number.
-use Rattle.std.proofs.Common.{◌≡◌, ℕ, zero, suc, ◌+◌, ◌-◌, ◌<◌, ◌≤◌, cond, eqb, ◌⊎◌, List, [], ◌∷◌, length, get_or, drop, sym, refl, ap, ◌∙◌, inl, inr, ⊎_elim, add-zero, arith}
+use Rattle.std.proofs.Common.{◌≡◌, ℕ, zero, suc, ◌+◌, ◌-◌, ◌<◌, ◌≤◌, cond, eqb, ◌⊎◌, List, [], ◌∷◌, length, get_or, slice_get, drop, Some, sym, refl, ap, ◌∙◌, inl, inr, ⊎_elim, add-zero, arith}
 use Rattle.std.proofs.lemmas.List.{drop_more, drop_all}
+use Rattle.std.proofs.lemmas.Option.{slice_get_within, get_or_from_slice_get}
 use Rattle.std.proofs.lemmas.Bool.{eq-eqb, ne_eqb, cond_both}
 use Rattle.tables.specs.Chains.{link, missing, visits_from, visits}
 use Rattle.tables.specs.declared.Link.{Link}
@@ -59,8 +60,10 @@ visits_on ls n m o =
     let e : n + 1 ≡ 1 + n = omega arith in
     ap (λ k. visits_from k (drop n ls) m) e ∙ sym (visits_skip n 1 ls m (omega arith) o')
 
-pub visits_met : (ls : List Link) (n : ℕ) (l d : Link) → l ≡ get_or ls (n - 1) d → 0 < n → n ≤ length ls → visits ls n ≡ link n l ∷ visits_from (n + 1) (drop n ls) l.next
-visits_met ls n l d is q h = visits_at ls n d q h ∙ ap (λ x. link n x ∷ visits_from (n + 1) (drop n ls) x.next) (sym is)
+pub visits_met : (ls : List Link) (n : ℕ) (l : Link) → slice_get ls (n - 1) ≡ Some l → 0 < n → visits ls n ≡ link n l ∷ visits_from (n + 1) (drop n ls) l.next
+visits_met ls n l met q =
+    let inside = slice_get_within ls (n - 1) l met in
+    visits_at ls n l q (omega (arith, inside)) ∙ ap (λ x. link n x ∷ visits_from (n + 1) (drop n ls) x.next) (get_or_from_slice_get ls (n - 1) l l met)
 
 -- a walk of a table comes to its end: each step is later in the table, or the last
 pub walk_falls : (len at next : ℕ) → 0 < at → at ≤ len → (next ≡ 0) ⊎ (at < next) → cond (eqb next 0) 0 (len + 1 - next) < cond (eqb at 0) 0 (len + 1 - at)

@@ -1,10 +1,13 @@
 // The table check: accepts the lent tables or tells the first fault met.
-ghost use Rattle.std.specs.Prelude.{◌≡◌, ℕ, ◌+◌, ◌-◌, ◌^◌, ◌<◌, ◌≤◌, false, length, set, is_ok, Decides, nat_lt, slice_index_or};
-ghost use Rattle.tables.specs.Problem.{contents, no_link};
-ghost use Rattle.tables.specs.Check.{told, first_fault, sizes_fault, quantity_keeps, kind_fits, subject_fits, amount_fits, within, in_range, names_quantity, link_fault, chain_fault, each_fault, quantity_fault, condition_fault, move_fault, goal_fault, accepted};
+ghost use Rattle.std.specs.Prelude.{◌≡◌, ℕ, ◌-◌, ◌^◌, ◌<◌, ◌≤◌, false, length, is_ok, Decides, nat_lt, slice_get, slice_index_or, MatchResult, Option};
+ghost use Rattle.tables.specs.Kinds.{kind_number};
+ghost use Rattle.tables.specs.Problem.{contents};
+ghost use Rattle.tables.specs.declared.fault.TaskFault.{TaskFault};
+ghost use Rattle.tables.specs.Check.{told, first_fault, sizes_fault, quantity_keeps, kind_fits, subject_fits, amount_fits, within, in_range, names_quantity, next_fits, link_fault, chain_fault, each_fault, quantity_fault, condition_fault, move_fault, goal_fault, accepted};
 ghost use Rattle.tables.specs.Rules.{Keeps};
 
 use crate::fault::*;
+use crate::kind::{LinkKind, Sense};
 use crate::*;
 
 pub const MOST_FACTS: u32 = 64;
@@ -17,30 +20,13 @@ pub const MOST_MOVES: usize = 256;
 
 pub const MOST_LINKS: usize = 4096;
 
-impl Tables<'_> {
-    fn check_sizes(&self) -> Result<(), TaskFault>
-        ensures { result ≡ told (sizes_fault (contents self.now)) }
-    {
-        if self.head.facts > MOST_FACTS {
-            return Err(TaskFault::TooManyFacts);
-        }
-        if self.quantities.len() > MOST_QUANTITIES {
-            return Err(TaskFault::TooLong(Table::Quantities));
-        }
-        if self.conditions.len() > MOST_CONDITIONS {
-            return Err(TaskFault::TooLong(Table::Conditions));
-        }
-        if self.moves.len() > MOST_MOVES {
-            return Err(TaskFault::TooLong(Table::Moves));
-        }
-        if self.links.len() > MOST_LINKS {
-            return Err(TaskFault::TooLong(Table::Links));
-        }
-        if !is_below(self.head.start, self.head.facts) {
-            return Err(TaskFault::StartWord);
-        }
-        Ok(())
-    }
+// Tables whose counts keep their limits.
+#[derive(Clone, Copy)]
+struct Bounded<'a> {
+    tables: Tables<'a>,
+    ghost few_quantities: { length tables.quantities.now ≤ 16 },
+    ghost few_conditions: { length tables.conditions.now ≤ 64 },
+    ghost few_moves: { length tables.moves.now ≤ 256 },
 }
 
 // Whether a word has no bit set from a number up.
@@ -50,127 +36,173 @@ pub fn is_below(word: u64, bits: u32) -> bool
     bits >= 64 || word >> bits == 0
 }
 
-impl Quantity {
-    fn keeps_limits(&self) -> bool
-        ensures { result ≡ quantity_keeps self.now }
-    {
-        if !is_within(self.lowest, 100_000) || !is_within(self.highest, 100_000) {
-            return false;
-        }
-        is_within(self.start, 100_000) && self.holds(self.start)
-    }
-
-    // Whether a value is in the quantity's range.
-    pub fn holds(&self, value: i32) -> bool
-        ensures { result ≡ in_range self.now value }
-    {
-        self.lowest <= value && value <= self.highest
-    }
-}
-
 fn is_within(x: i32, limit: u32) -> bool
     ensures { result ≡ within limit x }
 {
     x.unsigned_abs() <= limit
 }
 
-impl Link {
-    fn kind_fits(&self, role: Role) -> bool
-        ensures { result ≡ kind_fits role self.now.kind }
+impl Quantity {
+    fn check(&self, number: u32) -> Result<(), TaskFault>
+        ensures { result ≡ told (quantity_fault number self.now) }
+    {
+        if self.keeps_limits() {
+            Ok(())
+        } else {
+            Err(TaskFault::Quantity(number))
+        }
+    }
+
+    fn keeps_limits(&self) -> bool
+        ensures { result ≡ quantity_keeps self.now }
+    {
+        is_within(self.lowest, 100_000)
+            && is_within(self.highest, 100_000)
+            && is_within(self.start, 100_000)
+            && self.holds(self.start)
+    }
+
+    // Whether a value is in the quantity's range.
+    pub fn holds(&self, value: i32) -> bool
+        ensures { result ≡ in_range self.now value }
+    {
+        (self.lowest..=self.highest).contains(&value)
+    }
+}
+
+impl LinkKind {
+    // Whether a chain may hold a link of the kind.
+    fn fits(self, role: Role) -> bool
+        ensures { result ≡ kind_fits role (kind_number self) }
     {
         match role {
-            Role::Terms => self.kind == 1,
-            Role::Needs => self.kind == 2 || self.kind == 3,
-            Role::Effects => self.kind >= 4 && self.kind <= 6,
+            Role::Terms => self == LinkKind::Term,
+            Role::Needs => matches!(self, LinkKind::Fact | LinkKind::Condition),
+            Role::Effects => matches!(self, LinkKind::Set | LinkKind::Clear | LinkKind::Change),
         }
     }
 
-    fn subject_fits(&self, tables: &Tables) -> bool
-        ensures { result ≡ subject_fits (contents tables.now) self.now.kind self.now.subject }
+    fn takes_amount(self, amount: i32) -> bool
+        ensures { result ≡ amount_fits (kind_number self) amount }
     {
-        let subject = self.subject as usize;
-        match self.kind {
-            1 | 6 => subject >= 1 && subject <= tables.quantities.len(),
-            3 => subject >= 1 && subject <= tables.conditions.len(),
-            _ => self.subject < tables.head.facts,
-        }
-    }
-
-    fn amount_fits(&self) -> bool
-        ensures { result ≡ amount_fits self.now.kind self.now.amount }
-    {
-        match self.kind {
-            1 => self.amount != 0 && is_within(self.amount, 10),
-            6 => self.amount != 0 && is_within(self.amount, 200_000),
+        match self {
+            LinkKind::Term => amount != 0 && is_within(amount, 10),
+            LinkKind::Change => amount != 0 && is_within(amount, 200_000),
             _ => true,
         }
     }
 
-    fn names_quantity(&self) -> bool
-        ensures { result ≡ names_quantity self.now.kind }
+    fn names_quantity(self) -> bool
+        ensures { result ≡ names_quantity (kind_number self) }
     {
-        self.kind == 1 || self.kind == 6
+        matches!(self, LinkKind::Term | LinkKind::Change)
     }
 }
 
-impl Tables<'_> {
-    // The link with a number of the table.
-    fn link_at(&self, number: u32) -> Link
-        requires within { (1 ≤ number) × (number ≤ length (contents self.now).links) }
-        ensures { result ≡ slice_index_or (contents self.now).links (number - 1) no_link }
+impl Link {
+    // Whether the next of the link with a number is 0 or a later link.
+    fn leads_on(&self, at: u32) -> bool
+        ensures { result ≡ next_fits at self.now.next }
     {
-        self.links[number as usize - 1]
+        self.next == 0 || self.next > at
+    }
+}
+
+impl<'a> Bounded<'a> {
+    fn new(tables: Tables<'a>) -> Result<Bounded<'a>, TaskFault>
+        ensures { let fault = sizes_fault (contents tables.entry) in
+            MatchResult result (λ bounded. (bounded.tables ≡ tables.entry) × (fault ≡ None)) (λ f. fault ≡ Some f) }
+    {
+        if tables.head.facts > MOST_FACTS {
+            return Err(TaskFault::TooManyFacts);
+        }
+        if tables.quantities.len() > MOST_QUANTITIES {
+            return Err(TaskFault::TooLong(Table::Quantities));
+        }
+        if tables.conditions.len() > MOST_CONDITIONS {
+            return Err(TaskFault::TooLong(Table::Conditions));
+        }
+        if tables.moves.len() > MOST_MOVES {
+            return Err(TaskFault::TooLong(Table::Moves));
+        }
+        if tables.links.len() > MOST_LINKS {
+            return Err(TaskFault::TooLong(Table::Links));
+        }
+        if !is_below(tables.head.start, tables.head.facts) {
+            return Err(TaskFault::StartWord);
+        }
+        Ok(Bounded { tables })
     }
 
-    // The first fault of a link; `seen` has the quantities that the chain named before it.
+    // The link with a number.
+    fn link_at(&self, number: u32) -> Option<Link>
+        requires { 0 < number }
+        ensures { result ≡ slice_get (contents self.now.tables).links (number - 1) }
+    {
+        self.tables.links.get(number as usize - 1).copied()
+    }
+
+    // Whether what a link of the kind names exists.
+    fn has_subject(&self, kind: LinkKind, subject: u32) -> bool
+        ensures { result ≡ subject_fits (contents self.now.tables) (kind_number kind) subject }
+    {
+        let number = subject as usize;
+        match kind {
+            LinkKind::Term | LinkKind::Change => (1..=self.tables.quantities.len()).contains(
+                &number,
+            ),
+            LinkKind::Condition => (1..=self.tables.conditions.len()).contains(&number),
+            LinkKind::Fact | LinkKind::Set | LinkKind::Clear => subject < self.tables.head.facts,
+        }
+    }
+
+    // The kind of a link, or its first fault; `seen` has the quantities that the chain named before it.
     fn check_link(
         &self,
         role: Role,
         at: u32,
         link: &Link,
         seen: &[bool; 16],
-    ) -> Result<(), LinkFault>
-        requires few { length (contents self.now).quantities ≤ 16 }
-        ensures { result ≡ told (link_fault (contents self.now) role (slice_index_or seen.now (link.now.subject - 1) false) at link.now) }
+    ) -> Result<LinkKind, LinkFault>
+        ensures { let before = slice_index_or seen.now (link.now.subject - 1) false in
+            let fault = link_fault (contents self.now.tables) role before at link.now in
+            MatchResult result (λ kind. (kind_number kind ≡ link.now.kind) × (fault ≡ None)) (λ f. fault ≡ Some f) }
     {
-        if !link.kind_fits(role) {
+        let kind = LinkKind::try_from(link.kind).map_err(|_| LinkFault::Kind)?;
+        if !kind.fits(role) {
             return Err(LinkFault::Kind);
         }
-        if !link.subject_fits(self) {
+        if !self.has_subject(kind, link.subject) {
             return Err(LinkFault::Subject);
         }
-        if !link.amount_fits() {
+        if !kind.takes_amount(link.amount) {
             return Err(LinkFault::Amount);
         }
-        if link.names_quantity() && seen[link.subject as usize - 1] {
+        if kind.names_quantity() && seen[link.subject as usize - 1] {
             return Err(LinkFault::Repeated);
         }
-        if link.next != 0 && link.next <= at {
+        if !link.leads_on(at) {
             return Err(LinkFault::Next);
         }
-        Ok(())
+        Ok(kind)
     }
 
-    // The first fault of the chain that begins at a number.
+    // The first fault of the chain that begins at a number. No iterator gives the links, since a link is checked before its
+    // next is followed.
     fn check_chain(&self, role: Role, first: u32) -> Result<(), ChainFault>
-        requires few { length (contents self.now).quantities ≤ 16 }
-        ensures { result ≡ told (chain_fault (contents self.now) role first) }
+        ensures { result ≡ told (chain_fault (contents self.now.tables) role first) }
     {
         let mut seen = [false; 16];
         let mut at = first;
         while at != 0 {
-            let n = at as usize;
-            if n > self.links.len() {
-                return Err(ChainFault {
-                    link: at,
-                    fault: LinkFault::Missing,
-                });
-            }
-            let link = self.link_at(at);
-            if let Err(fault) = self.check_link(role, at, &link, &seen) {
-                return Err(ChainFault { link: at, fault });
-            }
-            if link.names_quantity() {
+            let link = self.link_at(at).ok_or(ChainFault {
+                link: at,
+                fault: LinkFault::Missing,
+            })?;
+            let kind = self
+                .check_link(role, at, &link, &seen)
+                .map_err(|fault| ChainFault { link: at, fault })?;
+            if kind.names_quantity() {
                 seen[link.subject as usize - 1] = true;
             }
             at = link.next;
@@ -178,92 +210,71 @@ impl Tables<'_> {
         Ok(())
     }
 
-    fn check_quantities(&self) -> Result<(), TaskFault>
-        requires few { length (contents self.now).quantities ≤ 16 }
-        ensures { result ≡ told (each_fault quantity_fault 1 (contents self.now).quantities) }
-    {
-        for (i, quantity) in self.quantities.iter().enumerate() {
-            if !quantity.keeps_limits() {
-                return Err(TaskFault::Quantity(i as u32 + 1));
-            }
-        }
-        Ok(())
-    }
-
     fn check_condition(&self, number: u32, condition: &Condition) -> Result<(), TaskFault>
-        requires few { length (contents self.now).quantities ≤ 16 }
-        ensures { result ≡ told (condition_fault (contents self.now) number condition.now) }
+        ensures { result ≡ told (condition_fault (contents self.now.tables) number condition.now) }
     {
-        if condition.kind > 1 {
-            return Err(TaskFault::ConditionKind(number));
-        }
+        Sense::try_from(condition.kind).map_err(|_| TaskFault::ConditionKind(number))?;
         if !is_within(condition.bound, 20_000_000) {
             return Err(TaskFault::ConditionBound(number));
         }
-        match self.check_chain(Role::Terms, condition.terms) {
-            Ok(()) => Ok(()),
-            Err(fault) => Err(TaskFault::Terms(number, fault)),
-        }
-    }
-
-    fn check_conditions(&self) -> Result<(), TaskFault>
-        requires few { length (contents self.now).quantities ≤ 16 }
-        requires fits { length (contents self.now).conditions ≤ 64 }
-        ensures { result ≡ told (each_fault (condition_fault (contents self.now)) 1 (contents self.now).conditions) }
-    {
-        for (i, condition) in self.conditions.iter().enumerate() {
-            self.check_condition(i as u32 + 1, condition)?;
-        }
-        Ok(())
+        self.check_chain(Role::Terms, condition.terms)
+            .map_err(|fault| TaskFault::Terms(number, fault))
     }
 
     fn check_move(&self, number: u32, action: &Move) -> Result<(), TaskFault>
-        requires few { length (contents self.now).quantities ≤ 16 }
-        ensures { result ≡ told (move_fault (contents self.now) number action.now) }
+        ensures { result ≡ told (move_fault (contents self.now.tables) number action.now) }
     {
-        if action.cost < 0 || !is_within(action.cost, 10_000) {
+        if !(0..=10_000).contains(&action.cost) {
             return Err(TaskFault::Cost(number));
         }
-        if let Err(fault) = self.check_chain(Role::Needs, action.needs) {
-            return Err(TaskFault::Needs(number, fault));
-        }
-        match self.check_chain(Role::Effects, action.effects) {
-            Ok(()) => Ok(()),
-            Err(fault) => Err(TaskFault::Effects(number, fault)),
-        }
-    }
-
-    fn check_moves(&self) -> Result<(), TaskFault>
-        requires few { length (contents self.now).quantities ≤ 16 }
-        requires fits { length (contents self.now).moves ≤ 256 }
-        ensures { result ≡ told (each_fault (move_fault (contents self.now)) 1 (contents self.now).moves) }
-    {
-        for (i, action) in self.moves.iter().enumerate() {
-            self.check_move(i as u32 + 1, action)?;
-        }
-        Ok(())
+        self.check_chain(Role::Needs, action.needs)
+            .map_err(|fault| TaskFault::Needs(number, fault))?;
+        self.check_chain(Role::Effects, action.effects)
+            .map_err(|fault| TaskFault::Effects(number, fault))
     }
 
     fn check_goal(&self) -> Result<(), TaskFault>
-        requires few { length (contents self.now).quantities ≤ 16 }
-        ensures { result ≡ told (goal_fault (contents self.now)) }
+        ensures { result ≡ told (goal_fault (contents self.now.tables)) }
     {
-        match self.check_chain(Role::Needs, self.head.goal) {
-            Ok(()) => Ok(()),
-            Err(fault) => Err(TaskFault::Goal(fault)),
-        }
+        self.check_chain(Role::Needs, self.tables.head.goal)
+            .map_err(TaskFault::Goal)
     }
+}
 
+// The first fault of a table's records, numbered from 1, by the check of one of them.
+fn check_each<T, F: Fn(u32, &T) -> Result<(), TaskFault>>(
+    records: &[T],
+    check: F,
+) -> Result<(), TaskFault>
+    requires few { length records.now ≤ 256 }
+    requires callable { F.IsAlwaysCallable check }
+    ensures { (fault : ℕ → T → Option TaskFault)
+        → ((k : ℕ) (x : _) (r : _) → F.post check k x r → r ≡ told (fault k x.now))
+        → result ≡ told (each_fault fault 1 records.now) }
+{
+    for (number, record) in (1..).zip(records) {
+        check(number, record)?;
+    }
+    Ok(())
+}
+
+impl Tables<'_> {
     // Accepts the tables, or tells the first fault met. Alters nothing.
     pub fn check(&self) -> Result<(), TaskFault>
         ensures told { result ≡ told (first_fault (contents self.now)) }
         ensures accepts { is_ok result ≡ accepted (contents self.now) }
         ensures exact { Decides (is_ok result) (Keeps (contents self.now)) }
     {
-        self.check_sizes()?;
-        self.check_quantities()?;
-        self.check_conditions()?;
-        self.check_moves()?;
-        self.check_goal()
+        let bounded = Bounded::new(*self)?;
+        check_each(self.quantities, |number, quantity| quantity.check(number))?;
+        check_each(
+            self.conditions,
+            |number, condition| bounded.check_condition(number, condition),
+        )?;
+        check_each(
+            self.moves,
+            |number, action| bounded.check_move(number, action),
+        )?;
+        bounded.check_goal()
     }
 }

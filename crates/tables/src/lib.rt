@@ -1,10 +1,11 @@
 // The flat tables of a simple numeric planning task, as a caller lends them, and the check that accepts or refuses them.
 // Every number type is wide enough to hold a wrong number, so that the check, and no reader before it, refuses it.
-// Quantities, conditions, moves and links are numbered from 1, facts from 0.
+// Quantities, conditions, moves and links are numbered from 1, facts from 0. The number 0 of a link ends a chain.
 #![tactic(auto)]
 
 pub mod check;
 pub mod fault;
+pub mod kind;
 
 // The head: how many facts (propositions) there are, a word whose bit k says that fact k holds at the start, and the number
 // of the first link of the goal chain.
@@ -23,7 +24,8 @@ pub struct Quantity {
     pub start: i32,
 }
 
-// A linear numeric condition: the sum over its chain of terms is at least the bound (kind 0) or more than it (kind 1).
+// A linear numeric condition: the sum over its chain of terms is at least the bound (kind 0) or more than it (kind 1). The kind
+// is a number, since a lent table may hold any; `Sense` is its kind by name.
 #[derive(Clone, Copy)]
 pub struct Condition {
     pub kind: u32,
@@ -39,7 +41,8 @@ pub struct Move {
     pub effects: u32,
 }
 
-// A link of a chain. Kinds: 1 term, 2 fact, 3 condition, 4 sets a fact, 5 clears a fact, 6 changes a quantity.
+// A link of a chain. Kinds: 1 term, 2 fact, 3 condition, 4 sets a fact, 5 clears a fact, 6 changes a quantity; a number, since a
+// lent table may hold any, and `LinkKind` by name.
 #[derive(Clone, Copy)]
 pub struct Link {
     pub kind: u32,

@@ -1,25 +1,24 @@
 -- Going along a chain of an accepted task: what is known of the links that are still to come.
-use Rattle.std.proofs.Common.{◌≡◌, ℕ, ◌+◌, ◌-◌, ◌*◌, ◌<◌, ◌≤◌, true, eqb, List, [], ◌∷◌, length, ℤ, pos, ◌*ℤ◌, nat_abs, ◌≤ℤ◌, Some, None, fold, sym, ap, ◌∙◌, subst, ap₂, subst₂, inl, ⊎_elim, arith, w32, SFits}
-use Rattle.std.proofs.lemmas.Nat.{mul-le}
+use Rattle.std.proofs.Common.{◌≡◌, ℕ, ◌+◌, ◌-◌, ◌<◌, ◌≤◌, true, cond, eqb, List, [], ◌∷◌, length, get_or, suc, ◌^◌, ℤ, ◌*ℤ◌, nat_abs, ◌≤ℤ◌, Some, None, sym, ap, ◌∙◌, subst, subst₂, inl, ⊎_elim, arith, w32, SFits}
 use Rattle.std.proofs.ByRecursion.{All-get_or}
 use Rattle.std.proofs.lemmas.Bool.{cond_both, eqb-false, and_parts}
 use Rattle.std.proofs.lemmas.Int.{ints}
 use lib.Signed.{le_z}
 use Rattle.std.specs.List.{AllByRecursion}
-use Rattle.tables.specs.Chains.{Visit, link, missing, visits, links_of, chain}
+use Rattle.tables.specs.Chains.{Visit, link, missing, visits_from, visits, links_of, chain}
 use Rattle.tables.specs.Problem.{Problem}
 use Rattle.tables.specs.Rules.{LinkFits, VisitKeeps, ChainKeeps, QuantityKeeps, ConditionKeeps, MoveKeeps, Keeps}
 use Rattle.task.specs.Walk.{Leads, Walkable, Stepped, steps_left}
-use Rattle.task.specs.States.{quantity_at, condition_at, move_at, value_of, add_term, total}
+use Rattle.task.specs.States.{quantity_at, condition_at, move_at}
 use Rattle.task.specs.Tasks.{problem}
 use Rattle.task.specs.declared.accepted.Task.{Task}
-use Rattle.task.specs.declared.state.State.{State}
 use Rattle.tables.specs.declared.Role.TheVariants.{Terms, Needs}
 use Rattle.tables.proofs.Accepts.{decides_accepted, decides_int_le}
-use Rattle.task.proofs.Ints.{nat_abs_add, size_fits32}
+use Rattle.task.proofs.Ints.{product_size, size_fits32, fits32_size}
 use Rattle.tables.specs.Check.{in_range}
 use Rattle.tables.specs.declared.Quantity.{Quantity}
 use Rattle.tables.specs.declared.Link.{Link}
+use Rattle.tables.specs.declared.Move.{Move}
 use Rattle.tables.specs.declared.Role.{Role}
 
 visits_lead : (p : Problem) (r : Role) (vs : List Visit) → AllByRecursion (VisitKeeps p r) vs → AllByRecursion Leads vs
@@ -98,6 +97,10 @@ condition_keeps p n t a b = All-get_or (ConditionKeeps p) p.conditions (n - 1) _
 pub move_keeps : (p : Problem) (n : ℕ) → Keeps p → 1 ≤ n → n ≤ length p.moves → MoveKeeps p (move_at p n)
 move_keeps p n t a b = All-get_or (MoveKeeps p) p.moves (n - 1) _ (omega arith) t.moves
 
+-- the move that was found under a number
+pub move_found : (t : Task) (n : ℕ) (m : Move) → (1 ≤ n) × (n ≤ length (problem t).moves) × ((d : Move) → m ≡ get_or (problem t).moves (n - 1) d) → MoveKeeps (problem t) m
+move_found t n m e = subst (MoveKeeps (problem t)) (sym (e.2 _)) (move_keeps (problem t) n (kept_rules t) e.0 e.1)
+
 pub quantity_holds : (p : Problem) (n : ℕ) → Keeps p → 1 ≤ n → n ≤ length p.quantities → QuantityKeeps (quantity_at p n)
 quantity_holds p n t a b = All-get_or QuantityKeeps p.quantities (n - 1) _ (omega arith) t.quantities
 
@@ -118,29 +121,16 @@ range_fits q v k h = size_fits32 v (let z = range_size q v k h in omega arith)
 abbrev pub term_limit : ℕ
 term_limit = 21474836480
 
-pub record Summed (p : Problem) (first : ℕ) (s : State) (ls : List Link) (n : ℕ) (sum : ℤ) : Type 0 where
-  pub going : Going p Terms ls n
-  pub left : fold (add_term s) sum (chain ls n) ≡ total (chain p.links first) s
-  pub small : nat_abs sum + steps_left ls n * term_limit ≤ 4096 * term_limit
+pub term_size : (p : Problem) (l : Link) (v : ℤ) → Keeps p → LinkFits p Terms l → SFits w32 v → nat_abs (l.amount *ℤ v) ≤ term_limit
+term_size p l v t f g = product_size l.amount v 10 (2 ^ 31) (term_of p l t f).2 (fits32_size v g)
 
-pub summed_start : (p : Problem) (first : ℕ) (s : State) (ls : List Link) (n : ℕ) → Keeps p → ChainKeeps p Terms first → ls ≡ p.links → n ≡ first → Summed p first s ls n (pos 0)
-summed_start p first s ls n t k l a =
-    let g = going_start p Terms first ls n t k l a in
-    record {
-      going = g;
-      left = ap₂ (λ ks m. total (chain ks m) s) l a;
-      small = omega (arith, mul-le (steps_left ls n) term_limit 4096 term_limit g.short (omega arith));
-    }
+-- a chain has no more links than the table
+links_few : (k : ℕ) (ls : List Link) (n : ℕ) → length (links_of (visits_from k ls n)) ≤ length ls
+unfolding links_of visits_from
+links_few k [] n = cond_both (eqb n 0) [] (missing n ∷ []) (λ vs. length (links_of vs) ≤ 0) (λ _. omega arith) (λ _. omega arith)
+links_few k (l ∷ ls) n =
+    let rest = links_few (k + 1) ls (cond (eqb k n) l.next n) in
+    cond_both (eqb k n) (link k l ∷ visits_from (k + 1) ls (cond (eqb k n) l.next n)) (visits_from (k + 1) ls (cond (eqb k n) l.next n)) (λ vs. length (links_of vs) ≤ suc (length ls)) (λ _. omega arith) (λ _. omega arith)
 
-pub summed_small : (p : Problem) (first : ℕ) (s : State) (ls : List Link) (n : ℕ) (sum : ℤ) → Summed p first s ls n sum → nat_abs sum ≤ 87960930222080
-summed_small p first s ls n sum w = let h = w.small in omega arith
-
-module _ (p : Problem) (first : ℕ) (s : State) (ls : List Link) (n : ℕ) (ls' : List Link) (n' : ℕ) (sum : ℤ) (l : Link) (w : Summed p first s ls n sum) (g : Gone p Terms l ls n ls' n') (h : nat_abs (l.amount *ℤ value_of s l.subject) ≤ term_limit) where
-  pub summed_size : nat_abs (add_term s sum l) + steps_left ls' n' * term_limit ≤ 4096 * term_limit
-  summed_size =
-      let a = nat_abs_add sum (l.amount *ℤ value_of s l.subject) in
-      let m : (steps_left ls' n' + 1) * term_limit ≤ steps_left ls n * term_limit = mul-le _ term_limit _ term_limit (omega (arith, g.fewer)) (omega arith) in
-      omega (arith, a, m, h, w.small)
-
-  pub summed_step : Summed p first s ls' n' (add_term s sum l)
-  summed_step = record { going = g.rest; left = sym (ap (fold (add_term s) sum) g.first) ∙ w.left; small = summed_size }
+pub chain_short : (p : Problem) (n : ℕ) → Keeps p → length (chain p.links n) ≤ 4096
+chain_short p n t = let h = links_few 1 p.links n in omega (arith, h, t.few_links)

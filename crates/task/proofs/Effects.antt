@@ -1,8 +1,8 @@
 -- The effects of a move, link by link: what has been noted, and that the rest gives the whole.
-use Rattle.std.proofs.Common.{◌≡◌, ℕ, ◌-◌, ◌^◌, ◌<◌, ◌≤◌, Bool, true, false, ◌&&◌, eqb, ◌⊎◌, List, [], length, set, ℤ, Some, None, fold, Option, sym, ap, ◌∙◌, ap₂, inr, arith}
+use Rattle.std.proofs.Common.{◌≡◌, ℕ, ◌-◌, ◌*◌, ◌%◌, ◌^◌, ◌<◌, ◌≤◌, Bool, true, false, cond, ◌&&◌, eqb, ◌⊎◌, List, [], length, set, ℤ, Some, None, fold, Option, sym, ap, ◌∙◌, subst, ap₂, inl, inr, arith}
 use lib.Bits.{bit_and, bit_or, bit_xor, or_lt}
 use Rattle.std.proofs.lemmas.List.{length-set}
-use Rattle.std.proofs.lemmas.Nat.{pow_below}
+use Rattle.std.proofs.lemmas.Nat.{pow_below, one_shl}
 use Rattle.std.proofs.lemmas.Bool.{eq-eqb, ne_eqb, cond-true, cond-false}
 use Rattle.tables.specs.Chains.{chain}
 use Rattle.tables.specs.Check.{in_range}
@@ -12,7 +12,11 @@ use Rattle.task.specs.States.{quantity_at, changed, stays, noted, made, cleared,
 use Rattle.task.specs.declared.state.State.{State}
 use Rattle.tables.specs.declared.Link.{Link}
 use Rattle.tables.specs.declared.Role.TheVariants.{Effects}
-use Rattle.task.proofs.Along.{Going, Gone}
+use Rattle.task.specs.Tasks.{problem}
+use Rattle.task.specs.Walk.{Walkable, Stepped, steps_left}
+use Rattle.task.specs.declared.accepted.Task.{Task}
+use Rattle.tables.proofs.Checked.{under_some, under_none}
+use Rattle.task.proofs.Along.{Going, Gone, going_step, kept_rules}
 
 pub record Effected (p : Problem) (s : State) (whole : List Link) (ls : List Link) (n : ℕ) (values : List ℤ) (sets clears : ℕ) : Type 0 where
   pub going : Going p Effects ls n
@@ -41,7 +45,7 @@ module _ (p : Problem) (s : State) (whole ls : List Link) (n : ℕ) (ls' : List 
   one_fold : {A : Type 0} (f : A → Link → A) (a b : A) (r : A) → f a l ≡ b → fold f a (chain ls n) ≡ r → fold f b (chain ls' n') ≡ r
   one_fold f a b r e h = ap (λ x. fold f x (chain ls' n')) (sym e) ∙ sym (ap (fold f a) g.first) ∙ h
 
-  pub effected_sets : l.kind ≡ 4 → l.subject < 64 → Effected p s whole ls' n' values (bit_or sets (2 ^ l.subject)) clears
+  effected_sets : l.kind ≡ 4 → l.subject < 64 → Effected p s whole ls' n' values (bit_or sets (2 ^ l.subject)) clears
   effected_sets k h =
       let n5 : l.kind ≡ 5 → ⊥ = λ e. omega arith in
       let n6 : l.kind ≡ 6 → ⊥ = λ e. omega arith in
@@ -56,7 +60,7 @@ module _ (p : Problem) (s : State) (whole ls : List Link) (n : ℕ) (ls' : List 
         clears_fit = w.clears_fit;
       }
 
-  pub effected_clears : l.kind ≡ 5 → l.subject < 64 → Effected p s whole ls' n' values sets (bit_or clears (2 ^ l.subject))
+  effected_clears : l.kind ≡ 5 → l.subject < 64 → Effected p s whole ls' n' values sets (bit_or clears (2 ^ l.subject))
   effected_clears k h =
       let n4 : l.kind ≡ 4 → ⊥ = λ e. omega arith in
       let n6 : l.kind ≡ 6 → ⊥ = λ e. omega arith in
@@ -78,7 +82,7 @@ module _ (p : Problem) (s : State) (whole ls : List Link) (n : ℕ) (ls' : List 
     change_stays : (b : Bool) → in_range (quantity_at p l.subject) (changed s l) ≡ b → (b && stays p s (chain ls' n')) ≡ stays p s whole
     change_stays b e = sym (ap (λ x. x && stays p s (chain ls' n')) (cond-true (eqb l.kind 6) _ true (eq-eqb _ 6 change_kind) ∙ e)) ∙ sym (ap (stays p s) g.first) ∙ w.keeps
 
-    pub effected_change : in_range (quantity_at p l.subject) (changed s l) ≡ true → Effected p s whole ls' n' (set values (l.subject - 1) (changed s l)) sets clears
+    effected_change : in_range (quantity_at p l.subject) (changed s l) ≡ true → Effected p s whole ls' n' (set values (l.subject - 1) (changed s l)) sets clears
     effected_change e =
         record {
           going = g.rest;
@@ -91,9 +95,46 @@ module _ (p : Problem) (s : State) (whole ls : List Link) (n : ℕ) (ls' : List 
           clears_fit = w.clears_fit;
         }
 
-    pub effected_out : in_range (quantity_at p l.subject) (changed s l) ≡ false → None ≡ after_effects p s whole
+    effected_out : in_range (quantity_at p l.subject) (changed s l) ≡ false → None ≡ after_effects p s whole
     unfolding after_effects
     effected_out e = sym (cond-false (stays p s whole) _ _ (sym (change_stays false e)))
+
+-- one turn of the loop, at a link of the chain of an accepted task
+module _ (t : Task) (s : State) (whole ls : List Link) (n : ℕ) (ls' : List Link) (n' : ℕ) (values : List ℤ) (sets clears : ℕ) (l : Link) (w : Effected (problem t) s whole ls n values sets clears) (e : Stepped ls n (Some l) ls' n') (on : Walkable ls' n' × Unit {0} × (steps_left ls' n' < steps_left ls n)) where
+  abbrev Turned : List ℤ → ℕ → ℕ → Type 0
+  Turned vs a b = Walkable ls' n' × Unit {0} × Effected (problem t) s whole ls' n' vs a b
+
+  gone : Gone (problem t) Effects l ls n ls' n'
+  gone = going_step (problem t) Effects l ls n ls' n' w.going e on
+
+  pub turn_fact : (l.kind ≡ 4) ⊎ (l.kind ≡ 5) → l.subject < 64
+  turn_fact k = effect_fact (problem t) l (kept_rules t) gone.fits k
+
+  pub turn_sets : l.kind ≡ 4 → Turned values (bit_or sets (1 * 2 ^ l.subject % 2 ^ 64)) clears
+  turn_sets k =
+      let h = turn_fact (inl k) in
+      (on.0, tt, subst (λ b. Effected (problem t) s whole ls' n' values (bit_or sets b) clears) (sym (one_shl l.subject 64 h)) (effected_sets (problem t) s whole ls n ls' n' values sets clears l w gone k h))
+
+  pub turn_clears : l.kind ≡ 5 → Turned values sets (bit_or clears (1 * 2 ^ l.subject % 2 ^ 64))
+  turn_clears k =
+      let h = turn_fact (inr k) in
+      (on.0, tt, subst (λ b. Effected (problem t) s whole ls' n' values sets (bit_or clears b)) (sym (one_shl l.subject 64 h)) (effected_clears (problem t) s whole ls n ls' n' values sets clears l w gone k h))
+
+  module _ (n4 : l.kind ≡ 4 → ⊥) (n5 : l.kind ≡ 5 → ⊥) where
+    pub turn_quantity : (1 ≤ l.subject) × (l.subject ≤ length (problem t).quantities) × (l.subject ≤ 16)
+    turn_quantity = let q = effect_quantity (problem t) l gone.fits n4 n5 in (q.0, q.1, omega (arith, q.1, (kept_rules t).few_quantities))
+
+    -- the change keeps its quantity in its range, or there is no result
+    abbrev Change : Option ℤ
+    Change = cond (in_range (quantity_at (problem t) l.subject) (changed s l)) (Some (changed s l)) None
+
+    pub turn_change : (v : ℤ) → Change ≡ Some v → Turned (set values (l.subject - 1) v) sets clears
+    turn_change v h =
+        let u = under_some _ _ v h in
+        (on.0, tt, subst (λ x. Effected (problem t) s whole ls' n' (set values (l.subject - 1) x) sets clears) u.1 (effected_change (problem t) s whole ls n ls' n' values sets clears l w gone n4 n5 u.0))
+
+    pub turn_out : Change ≡ None → None ≡ after_effects (problem t) s whole
+    turn_out h = effected_out (problem t) s whole ls n ls' n' values sets clears l w gone n4 n5 (under_none _ _ h)
 
 pub effected_end : (p : Problem) (s : State) (whole ls : List Link) (n : ℕ) (values : List ℤ) (sets clears : ℕ) → Effected p s whole ls n values sets clears → chain ls n ≡ []
     → Some (record { facts = bit_or (bit_xor s.facts (bit_and s.facts clears)) sets; values = values }) ≡ after_effects p s whole

@@ -1,7 +1,8 @@
 -- Lists of moves and the plan check: its steps, and that it passes exactly the plans.
-use Rattle.std.proofs.Common.{◌≡◌, ℕ, ◌+◌, ◌-◌, ◌<◌, ◌≤◌, Bool, true, false, cond, leb, ◌⊎◌, List, [], ◌∷◌, ◌++◌, length, get_or, take, drop, is_ok, Some, None, Ok, Err, Decides, Option, Result, sym, refl, ap, ◌∙◌, subst, ⊎_elim, add-zero, add_assoc, zero-add, arith}
-use Rattle.std.proofs.lemmas.List.{drop_more, drop_all, append-nil, append_assoc, length-append, take_at, get_or_at, length_push}
-use Rattle.std.proofs.lemmas.Bool.{cond-true, cond-false, cond_both, and_left, and_right, and_from, and_parts, le-leb, lt-leb, leb-true, leb-false, false≢true}
+use Rattle.std.proofs.Common.{◌≡◌, ℕ, ◌+◌, ◌-◌, ◌*◌, ◌≤◌, Bool, true, false, cond, leb, List, [], ◌∷◌, ◌++◌, length, get_or, take, is_ok, Some, None, Ok, Err, Decides, Option, Result, sym, refl, ap, ◌∙◌, subst, ap₂, add-zero, add_assoc, zero-add, arith}
+use Rattle.std.proofs.lemmas.List.{append-nil, append_assoc, length-append, take_at, get_or_at, length_push, nil_from_length}
+use Rattle.std.proofs.lemmas.Bool.{cond-true, cond-false, cond_both, and_parts, le-leb, leb-true, leb-false, false≢true}
+use Rattle.std.specs.Option.{ok_or}
 use Rattle.tables.specs.Problem.{Problem}
 use Rattle.task.specs.Plans.{cost_of, and_then, after, PlanFrom, Plan, cost, is_move, moved_on, judged, plan_answer, Refused, Judges}
 use Rattle.task.specs.States.{goal_holds, start_state, allowed, result_of}
@@ -42,33 +43,48 @@ result_is_move p s e m h = (and_parts _ _ (and_parts _ _ (under_some (allowed p 
 
 -- ---- the loop of the check
 
-module _ (p : Problem) (ms : List ℕ) (i : ℕ) (s : State) (spent : ℕ) where
-  judged_at : i < length ms → judged p (i + 1) s spent (drop i ms)
-      ≡ cond (is_move p (get_or ms i 0)) (moved_on (result_of p s (get_or ms i 0)) (Err (NotAllowed (i + 1))) (λ e. judged p (i + 1 + 1) e (spent + cost_of p (get_or ms i 0)) (drop (i + 1) ms))) (Err (NoSuchMove (i + 1)))
+-- before the move at a position: the answer for the rest of the list is the answer
+pub record Judging (p : Problem) (whole : List ℕ) (position : ℕ) (rest : List ℕ) (s : State) (spent : ℕ) : Type 0 where
+  pub answer : judged p position s spent rest ≡ judged p 1 (start_state p) 0 whole
+  pub long : position + length rest ≡ 1 + length whole
+  pub small : spent + 10000 ≤ 10000 * position
+
+pub judging_start : (p : Problem) (whole : List ℕ) (position : ℕ) (rest : List ℕ) (s : State) → position ≡ 1 → rest ≡ whole → s ≡ start_state p → Judging p whole position rest s 0
+judging_start p whole position rest s a b e = record { answer = ap₂ (λ k t. judged p k t 0 rest) a e ∙ ap (judged p 1 (start_state p) 0) b; long = omega (arith, a, ap length b); small = omega (arith, a) }
+
+module _ (p : Problem) (whole : List ℕ) (position : ℕ) (rest : List ℕ) (s : State) (spent : ℕ) (w : Judging p whole position rest s spent) where
+  module _ (m : ℕ) (later : List ℕ) (e : rest ≡ m ∷ later) where
+    judged_at : judged p position s spent rest ≡ cond (is_move p m) (moved_on (result_of p s m) (Err (NotAllowed position)) (λ t. judged p (position + 1) t (spent + cost_of p m) later)) (Err (NoSuchMove position))
+    unfolding judged
+    judged_at = ap (judged p position s spent) e
+
+    pub judging_no_move : is_move p m ≡ false → Err (NoSuchMove position) ≡ judged p 1 (start_state p) 0 whole
+    judging_no_move h = sym (cond-false _ _ _ h) ∙ sym judged_at ∙ w.answer
+
+    allowed_at : is_move p m ≡ true → (o : Option State) → result_of p s m ≡ o → judged p position s spent rest ≡ moved_on o (Err (NotAllowed position)) (λ t. judged p (position + 1) t (spent + cost_of p m) later)
+    allowed_at yes' o r = judged_at ∙ cond-true _ _ _ yes' ∙ ap (λ x. moved_on x (Err (NotAllowed position)) (λ t. judged p (position + 1) t (spent + cost_of p m) later)) r
+
+    pub judging_not_allowed : is_move p m ≡ true → result_of p s m ≡ None → Err (NotAllowed position) ≡ judged p 1 (start_state p) 0 whole
+    judging_not_allowed yes' r = sym (allowed_at yes' None r) ∙ w.answer
+
+    pub judging_on : (t : State) → is_move p m ≡ true → result_of p s m ≡ Some t → cost_of p m ≤ 10000 → Judging p whole (position + 1) later t (spent + cost_of p m)
+    judging_on t yes' r c =
+        record { answer = sym (allowed_at yes' (Some t) r) ∙ w.answer; long = omega (arith, w.long, ap length e); small = omega (arith, w.small, c) }
+
+  pub judging_end : length rest ≡ 0 → cond (goal_holds p s) (Ok spent) (Err (GoalMissed (length whole))) ≡ judged p 1 (start_state p) 0 whole
   unfolding judged
-  judged_at h = ap (judged p (i + 1) s spent) (drop_more ms i 0 h)
+  judging_end e =
+      let at : position - 1 ≡ length whole = omega (arith, w.long, e) in
+      ap (λ n. cond (goal_holds p s) (Ok spent) (Err (GoalMissed n))) (sym at) ∙ sym (ap (judged p position s spent) (nil_from_length rest e)) ∙ w.answer
 
-  pub judged_no_move : i < length ms → is_move p (get_or ms i 0) ≡ false → judged p (i + 1) s spent (drop i ms) ≡ Err (NoSuchMove (i + 1))
-  judged_no_move h e = judged_at h ∙ cond-false _ _ _ e
+-- a number for which there is an answer, or none, through `ok_or`
+pub refused : {X F : Type 0} (o : Option X) (e f : F) → ok_or o e ≡ Err f → (o ≡ None) × (f ≡ e)
+refused None e f h = (refl, cc)
+refused (Some x) e f h = absurd (cc)
 
-  pub judged_not_allowed : i < length ms → is_move p (get_or ms i 0) ≡ true → result_of p s (get_or ms i 0) ≡ None → judged p (i + 1) s spent (drop i ms) ≡ Err (NotAllowed (i + 1))
-  judged_not_allowed h m e = judged_at h ∙ cond-true _ _ _ m ∙ ap (λ o. moved_on o (Err (NotAllowed (i + 1))) (λ x. judged p (i + 1 + 1) x (spent + cost_of p (get_or ms i 0)) (drop (i + 1) ms))) e
-
-  pub judged_on : (e : State) → i < length ms → is_move p (get_or ms i 0) ≡ true → result_of p s (get_or ms i 0) ≡ Some e
-      → judged p (i + 1) s spent (drop i ms) ≡ judged p (i + 1 + 1) e (spent + cost_of p (get_or ms i 0)) (drop (i + 1) ms)
-  judged_on e h m r = judged_at h ∙ cond-true _ _ _ m ∙ ap (λ o. moved_on o (Err (NotAllowed (i + 1))) (λ x. judged p (i + 1 + 1) x (spent + cost_of p (get_or ms i 0)) (drop (i + 1) ms))) r
-
-  pub judged_end : i ≡ length ms → judged p (i + 1) s spent (drop i ms) ≡ cond (goal_holds p s) (Ok spent) (Err (GoalMissed (length ms)))
-  unfolding judged
-  judged_end e =
-      let at : i + 1 - 1 ≡ length ms = omega arith in
-      ap (judged p (i + 1) s spent) (drop_all i ms (omega arith)) ∙ ap (λ n. cond (goal_holds p s) (Ok spent) (Err (GoalMissed n))) at
-
-pub move_number : (p : Problem) (m : ℕ) → 1 ≤ m → m ≤ length p.moves → is_move p m ≡ true
-move_number p m a b = and_from _ _ (le-leb 1 m a) (le-leb m _ b)
-
-pub no_move_number : (p : Problem) (m : ℕ) → (m ≡ 0) ⊎ (length p.moves < m) → is_move p m ≡ false
-no_move_number p m o = ⊎_elim (λ e. and_left _ _ (ap (leb 1) e)) (λ h. and_right _ _ (lt-leb m _ h)) o
+pub accepted : {X F : Type 0} (o : Option X) (e : F) (x : X) → ok_or o e ≡ Ok x → o ≡ Some x
+accepted None e x h = absurd (cc)
+accepted (Some y) e x h = cc
 
 -- ---- what the answer says
 

@@ -1,5 +1,6 @@
 pub mod Words
 pub mod Along
+pub mod Roads
 pub mod Ints
 pub mod Starts
 pub mod Effects

@@ -7,13 +7,14 @@
 --   Reachable    a state that a list of moves, each allowed in turn, leads to from the start state
 --   cost         the cost of a list of moves
 --   plan_number, plan_position   the number and the position of each fault of the plan check
+--   fault_text   what a fault of the plan check prints as
 --   is_move      a number is that of a move of the table
 --   moved_on     goes on from a result, where there is one
 --   judged       the answer for the rest of a list from position k, at the state and the cost so far
 --   plan_answer  the answer of the plan check
 --   Refused      what each refusal says of the list
 --   Judges       what an answer says of the list
-use Rattle.std.specs.Prelude.{◌≡◌, ℕ, ◌+◌, ◌-◌, ◌<◌, ◌≤◌, Bool, true, false, cond, ◌&&◌, List, [], ◌∷◌, length, take, Some, None, Ok, Err, Option, Result, nat_le, slice_index, unsigned_abs}
+use Rattle.std.specs.Prelude.{◌≡◌, ℕ, ◌+◌, ◌-◌, ◌<◌, ◌≤◌, Bool, true, false, cond, ◌&&◌, List, [], ◌∷◌, ◌++◌, length, take, codes, decimal, Some, None, Ok, Err, Option, Result, nat_le, slice_index, unsigned_abs}
 use Rattle.tables.specs.Problem.{Problem}
 use Rattle.task.specs.States.{move_at, goal_holds, start_state, result_of}
 use Rattle.task.specs.declared.state.State.{State}
@@ -57,6 +58,9 @@ plan_position TooLong = 0
 plan_position (NoSuchMove k) = k
 plan_position (NotAllowed k) = k
 plan_position (GoalMissed k) = k
+
+abbrev pub fault_text : PlanFault → List ℕ
+fault_text fault = codes "rule " ++ (decimal (plan_number fault) ++ (codes " at position " ++ decimal (plan_position fault)))
 
 abbrev pub is_move : Problem → ℕ → Bool
 is_move p m = nat_le 1 m && nat_le m (length p.moves)

@@ -9,6 +9,7 @@
 --   goal_holds        every need of the goal chain holds
 --   value_fits, values_fit   the value at index i is in the range of quantity i + 1, or 0 past the last quantity
 --   is_state          a record is a state: no fact bit from the number of facts up, each quantity in its range, 0 past them
+--   start_value       the value at index i at the start: that of quantity i + 1, or 0 past the last quantity
 --   start_state       the state at the start
 --   changed           a quantity's value with the amount of a link added to it
 --   stays             every quantity that a link of the effects changes is in its range then
@@ -87,6 +88,9 @@ values_fit qs i (v ∷ vs) = value_fits qs i v && values_fit qs (i + 1) vs
 
 unfoldable pub is_state : Problem → State → Bool
 is_state p s = nat_lt s.facts (2 ^ p.head.facts) && length s.values == 16 && values_fit p.quantities 0 s.values
+
+abbrev pub start_value : List Quantity → ℕ → ℤ
+start_value qs i = cond (nat_lt i (length qs)) (slice_index_or qs i no_quantity).start (pos 0)
 
 unfoldable pub start_state : Problem → State
 start_state p = record { facts = p.head.start; values = map (λ q. q.start) p.quantities ++ replicate (16 - length p.quantities) (pos 0) }

@@ -3,8 +3,11 @@ ghost use Rattle.std.specs.Prelude.{◌≡◌};
 ghost use Rattle.task.specs.Walk.{Walkable, Stepped, steps_left};
 ghost use Rattle.std.specs.Iterator.{at_most};
 
+use crate::records::numbered;
 use tables::*;
 
+// Functions that follow a chain say by a clause, `ChainKeeps`, that it keeps the rules of its role. A struct that carried this
+// fact would still need the role in each contract, or be one of three structs, each for two functions.
 #[derive(Clone, Copy)]
 pub struct Chain<'a> {
     links: &'a [Link],
@@ -30,10 +33,7 @@ impl Iterator for Chain<'_> {
     ghost remaining = { λ s. at_most (steps_left s.links.now s.at) };
 
     fn next(&mut self) -> Option<Link> {
-        if self.at == 0 {
-            return None;
-        }
-        let link = self.links[self.at as usize - 1];
+        let link = numbered(self.links, self.at)?;
         self.at = link.next;
         Some(link)
     }

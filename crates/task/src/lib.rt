@@ -3,7 +3,9 @@
 
 pub mod accepted;
 pub mod chain;
+mod checked;
 pub mod holds;
 pub mod moves;
 pub mod plan;
+mod records;
 pub mod state;

@@ -4,14 +4,17 @@ ghost use Rattle.tables.specs.Chains.{chain};
 ghost use Rattle.tables.specs.Check.{in_range};
 ghost use Rattle.task.specs.Meaning.{MovesMean};
 ghost use Rattle.tables.specs.Rules.{ChainKeeps, LinkFits};
-ghost use Rattle.task.specs.States.{is_state, start_state, value_fits, quantity_at, changed, after_effects, allowed, result_of};
+ghost use Rattle.task.specs.States.{is_state, start_state, start_value, value_fits, quantity_at, changed, after_effects, allowed, result_of};
 ghost use Rattle.task.specs.Tasks.{problem};
 ghost use Rattle.tables.specs.declared.Role.TheVariants.{Effects};
 
 use crate::accepted::Task;
 use crate::chain::*;
+use crate::records::numbered;
 use crate::state::State;
+use std::array;
 use tables::check::is_below;
+use tables::kind::LinkKind;
 use tables::*;
 
 impl Task<'_> {
@@ -20,40 +23,34 @@ impl Task<'_> {
         ensures is { result ≡ start_state (problem self.now) }
         ensures state { is_state (problem self.now) result ≡ true }
     {
-        let mut values = [0; 16];
-        for (i, quantity) in self.tables.quantities.iter().enumerate() {
-            values[i] = quantity.start;
-        }
         State {
             facts: self.tables.head.start,
-            values,
+            values: array::from_fn(|i| self.start_value(i)),
         }
+    }
+
+    // The value at an index at the start: the quantity's, or 0 past the last quantity.
+    fn start_value(&self, i: usize) -> i32
+        ensures { result ≡ start_value (problem self.now).quantities i }
+    {
+        let quantity = self.tables.quantities.get(i);
+        quantity.map_or(0, |quantity| quantity.start)
     }
 
     // Whether a value may stand at an index in a state: in the quantity's range, or 0 past the last quantity.
     fn value_fits(&self, i: usize, value: i32) -> bool
         ensures { result ≡ value_fits (problem self.now).quantities i value }
     {
-        if i < self.tables.quantities.len() {
-            self.tables.quantities[i].holds(value)
-        } else {
-            value == 0
-        }
+        let quantity = self.tables.quantities.get(i);
+        quantity.map_or(value == 0, |quantity| quantity.holds(value))
     }
 
     // Whether a record is a state of the task.
     pub fn is_state(&self, state: &State) -> bool
         ensures { result ≡ is_state (problem self.now) state.now }
     {
-        if !is_below(state.facts, self.tables.head.facts) {
-            return false;
-        }
-        for (i, value) in state.values.iter().enumerate() {
-            if !self.value_fits(i, *value) {
-                return false;
-            }
-        }
-        true
+        let fits = |(i, value): (usize, &i32)| self.value_fits(i, *value);
+        is_below(state.facts, self.tables.head.facts) && state.values.iter().enumerate().all(fits)
     }
 
     // The value of a quantity after a change, where it stays in its range.
@@ -63,11 +60,7 @@ impl Task<'_> {
     {
         let at = change.subject as usize - 1;
         let value = state.values[at].checked_add(change.amount)?;
-        if self.tables.quantities[at].holds(value) {
-            Some(value)
-        } else {
-            None
-        }
+        self.tables.quantities[at].holds(value).then_some(value)
     }
 
     // The state after the effects of a chain, worked out on a copy: clears, then sets, and every change from the state before;
@@ -80,13 +73,10 @@ impl Task<'_> {
         let mut sets = 0u64;
         let mut clears = 0u64;
         for link in Chain::new(self.tables.links, first) {
-            if link.kind == 4 {
-                sets |= 1 << link.subject;
-            } else if link.kind == 5 {
-                clears |= 1 << link.subject;
-            } else {
-                let value = self.changed(&link, state)?;
-                values[link.subject as usize - 1] = value;
+            match LinkKind::try_from(link.kind) {
+                Ok(LinkKind::Set) => sets |= 1 << link.subject,
+                Ok(LinkKind::Clear) => clears |= 1 << link.subject,
+                _ => values[link.subject as usize - 1] = self.changed(&link, state)?,
             }
         }
         let kept = state.facts ^ (state.facts & clears);
@@ -101,10 +91,7 @@ impl Task<'_> {
         ensures is { result ≡ result_of (problem self.now) state.now number }
         ensures means { (is_state (problem self.now) state.now ≡ true → MovesMean (problem self.now) state.now number) }
     {
-        if number == 0 || number as usize > self.tables.moves.len() {
-            return None;
-        }
-        let action = self.tables.moves[number as usize - 1];
+        let action = numbered(self.tables.moves, number)?;
         if !self.needs_hold(action.needs, state) {
             return None;
         }
@@ -112,6 +99,7 @@ impl Task<'_> {
     }
 
     // Whether a move is allowed, at any record.
+    #[tactic(auto, using(crate::proofs::Results::allowed_result))]
     pub fn allowed(&self, state: &State, number: u32) -> bool
         ensures { result ≡ allowed (problem self.now) state.now number }
     {

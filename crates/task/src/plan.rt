@@ -1,11 +1,14 @@
 // The plan check: tells the cost of a list of moves that is a plan, or the first fault.
-ghost use Rattle.std.specs.Prelude.{◌≡◌, ◌≤◌, length, is_ok, Decides};
-ghost use Rattle.task.specs.Plans.{plan_number, plan_position, plan_answer, judged, cost_of, Plan, Judges};
+ghost use Rattle.std.specs.Prelude.{◌≡◌, ◌≤◌, length, is_ok, Decides, IfSome, if◌then◌else◌, Some, None};
+ghost use Rattle.task.specs.Plans.{plan_number, plan_position, fault_text, plan_answer, judged, cost_of, is_move, Plan, Judges};
 ghost use Rattle.task.specs.States.{start_state};
 ghost use Rattle.task.specs.Tasks.{problem};
 
 use crate::accepted::Task;
+use crate::records::numbered;
 use crate::state::State;
+use std::error::Error;
+use std::fmt;
 
 pub const MOST_LISTED: usize = 65536;
 
@@ -41,6 +44,16 @@ impl PlanFault {
     }
 }
 
+impl fmt::Display for PlanFault {
+    ghost output = { λ fault. Some (fault_text fault) };
+
+    fn fmt<W: fmt::Write>(&self, f: &mut fmt::Formatter<W>) -> fmt::Result {
+        write!(f, "rule {} at position {}", self.number(), self.position())
+    }
+}
+
+impl Error for PlanFault {}
+
 impl Task<'_> {
     // The cost of the list where it is a plan of the task; else the first fault.
     pub fn check_plan(&self, list: &[u32]) -> Result<u64, PlanFault>
@@ -61,16 +74,11 @@ impl Task<'_> {
     {
         let mut state = self.start_state();
         let mut spent = 0u64;
-        for (i, m) in list.iter().enumerate() {
-            let number = *m;
-            if number == 0 || number as usize > self.tables.moves.len() {
-                return Err(PlanFault::NoSuchMove(i as u32 + 1));
-            }
-            let Some(next) = self.result(&state, number) else {
-                return Err(PlanFault::NotAllowed(i as u32 + 1));
-            };
-            spent += self.cost(number);
-            state = next;
+        for (position, number) in (1..).zip(list) {
+            spent += self.cost(*number).ok_or(PlanFault::NoSuchMove(position))?;
+            state = self
+                .result(&state, *number)
+                .ok_or(PlanFault::NotAllowed(position))?;
         }
         if self.goal_holds(&state) {
             Ok(spent)
@@ -79,12 +87,12 @@ impl Task<'_> {
         }
     }
 
-    // The cost of a move of the table.
-    fn cost(&self, number: u32) -> u64
-        requires { (1 ≤ number) × (number ≤ length (problem self.now).moves) }
-        ensures is { result ≡ cost_of (problem self.now) number }
-        ensures small { result ≤ 10000 }
+    // The cost of the move with a number, where it is in the table.
+    fn cost(&self, number: u32) -> Option<u64>
+        ensures is { result ≡ (if is_move (problem self.now) number then Some (cost_of (problem self.now) number) else None) }
+        ensures small { IfSome result (λ n. n ≤ 10000) }
     {
-        u64::from(self.tables.moves[number as usize - 1].cost.unsigned_abs())
+        let action = numbered(self.tables.moves, number)?;
+        Some(u64::from(action.cost.unsigned_abs()))
     }
 }

@@ -1,6 +1,6 @@
-use Rattle.std.proofs.Common.{arith}
-use Rattle.order.proofs.Holding.{first_from}
+use Rattle.std.proofs.Common.{◌∙◌}
+use Rattle.order.proofs.Holding.{first_answer}
 use Rattle.order.proofs.Heap.first.Goals as goal
 
 pub returns : goal.returns
-returns g c = first_from c.args.self.now c.index-self-0.result (omega arith) c.requires
+returns g c = first_answer c.args.self.now c.copied.result (c.copied.ensures ∙ c.first.ensures.value) c.args.self.now.lawful

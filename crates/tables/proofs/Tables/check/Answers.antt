@@ -1,12 +1,11 @@
-use Rattle.std.proofs.Common.{◌≡◌, is_ok, Err, Decides, Result, sym, ap, ◌∙◌}
-use Rattle.std.proofs.lemmas.Result.{err_from_is_err_and}
-use Rattle.tables.specs.Check.{told, first_fault, accepted}
+use Rattle.std.proofs.Common.{rules, ◌≡◌, is_ok, Ok, Err, Decides, Result, sym, ap, ◌∙◌}
+use Rattle.tables.specs.Check.{told, first_fault, accepted, sizes_fault, quantity_fault, condition_fault, move_fault, goal_fault}
 use Rattle.std.proofs.lemmas.Bool.Decides.{Decides-at}
-use Rattle.tables.specs.Problem.{Problem}
+use Rattle.tables.specs.Problem.{Problem, contents}
 use Rattle.tables.specs.Rules.{Keeps}
 use Rattle.tables.specs.declared.fault.TaskFault.{TaskFault}
 use Rattle.tables.proofs.Accepts.{decides_accepted, told_accepts}
-use Rattle.tables.proofs.Checked.{told_err, told_ok, or_some, or_skip}
+use Rattle.tables.proofs.Checked.{told_here, told_next}
 use Rattle.tables.proofs.Tables.check.Goals as goal
 
 -- the answer says which fault is first, and so whether the tables keep the rules
@@ -15,45 +14,49 @@ full p r e =
     let same : is_ok r ≡ accepted p = ap is_ok e ∙ told_accepts p in
     record { told = e; accepts = same; exact = Decides-at (is_ok r) (accepted p) same (decides_accepted p) }
 
-pub returns-in_err-check_sizes : goal.returns-in_err-check_sizes
+pub returns-in_err-bounded : goal.returns-in_err-bounded
 unfolding first_fault
-returns-in_err-check_sizes c =
-    let p = err_from_is_err_and c.from_residual.result c.from_residual.ensures.1 in
-    let e = told_err _ _ (sym c.check_sizes.ensures ∙ c.in_err-check_sizes.was) in
-    full _ _ (p.1 ∙ ap Err p.2 ∙ sym (ap told (or_some _ _ _ e)))
+returns-in_err-bounded c =
+    let sizes : told (sizes_fault (contents c.args.self.now)) ≡ Err c.in_err-bounded.field-0.0 = search rules in
+    let is : c.from_residual.result ≡ Err c.in_err-bounded.field-0.0 = search rules in
+    full _ _ (is ∙ sym (told_here _ _ _ sizes))
 
-pub returns-in_err-check_quantities : goal.returns-in_err-check_quantities
+pub returns-in_err-check_each : goal.returns-in_err-check_each
 unfolding first_fault
-returns-in_err-check_quantities c =
-    let p = err_from_is_err_and c.from_residual-in_err-check_quantities.result c.from_residual-in_err-check_quantities.ensures.1 in
-    let n0 = told_ok _ (sym c.check_sizes.ensures ∙ c.in_ok-check_sizes.was) in
-    let e = told_err _ _ (sym c.check_quantities.ensures ∙ c.in_err-check_quantities.was) in
-    full _ _ (p.1 ∙ ap Err p.2 ∙ sym (ap told (or_skip _ _ n0 ∙ or_some _ _ _ e)))
+returns-in_err-check_each c =
+    let sizes : told (sizes_fault (contents c.args.self.now)) ≡ Ok tt = search rules in
+    let quantities = c.check_each.ensures quantity_fault (λ k x r post. search rules) in
+    let is : c.from_residual-in_err-check_each.result ≡ Err c.in_err-check_each.field-0.0 = search rules in
+    full _ _ (is ∙ sym (told_next _ _ sizes ∙ told_here _ _ _ (sym quantities ∙ c.in_err-check_each.was)))
 
-pub returns-in_err-check_conditions : goal.returns-in_err-check_conditions
+pub returns-in_err-check_each-2 : goal.returns-in_err-check_each-2
 unfolding first_fault
-returns-in_err-check_conditions c =
-    let p = err_from_is_err_and c.from_residual-in_err-check_conditions.result c.from_residual-in_err-check_conditions.ensures.1 in
-    let n0 = told_ok _ (sym c.check_sizes.ensures ∙ c.in_ok-check_sizes.was) in
-    let n1 = told_ok _ (sym c.check_quantities.ensures ∙ c.in_ok-check_quantities.was) in
-    let e = told_err _ _ (sym c.check_conditions.ensures ∙ c.in_err-check_conditions.was) in
-    full _ _ (p.1 ∙ ap Err p.2 ∙ sym (ap told (or_skip _ _ n0 ∙ or_skip _ _ n1 ∙ or_some _ _ _ e)))
+returns-in_err-check_each-2 c =
+    let same : c.in_ok-bounded.bounded.tables ≡ c.args.self.now = search rules in
+    let sizes : told (sizes_fault (contents c.args.self.now)) ≡ Ok tt = search rules in
+    let quantities = c.check_each.ensures quantity_fault (λ k x r post. search rules) in
+    let conditions = c.check_each-2.ensures (condition_fault (contents c.args.self.now)) (λ k x r post. search rules) in
+    let is : c.from_residual-in_err-check_each-2.result ≡ Err c.in_err-check_each-2.field-0.0 = search rules in
+    full _ _ (is ∙ sym (told_next _ _ sizes ∙ told_next _ _ (sym quantities ∙ c.in_ok-check_each.was) ∙ told_here _ _ _ (sym conditions ∙ c.in_err-check_each-2.was)))
 
-pub returns-in_err-check_moves : goal.returns-in_err-check_moves
+pub returns-in_err-check_each-3 : goal.returns-in_err-check_each-3
 unfolding first_fault
-returns-in_err-check_moves c =
-    let p = err_from_is_err_and c.from_residual-in_err-check_moves.result c.from_residual-in_err-check_moves.ensures.1 in
-    let n0 = told_ok _ (sym c.check_sizes.ensures ∙ c.in_ok-check_sizes.was) in
-    let n1 = told_ok _ (sym c.check_quantities.ensures ∙ c.in_ok-check_quantities.was) in
-    let n2 = told_ok _ (sym c.check_conditions.ensures ∙ c.in_ok-check_conditions.was) in
-    let e = told_err _ _ (sym c.check_moves.ensures ∙ c.in_err-check_moves.was) in
-    full _ _ (p.1 ∙ ap Err p.2 ∙ sym (ap told (or_skip _ _ n0 ∙ or_skip _ _ n1 ∙ or_skip _ _ n2 ∙ or_some _ _ _ e)))
+returns-in_err-check_each-3 c =
+    let same : c.in_ok-bounded.bounded.tables ≡ c.args.self.now = search rules in
+    let sizes : told (sizes_fault (contents c.args.self.now)) ≡ Ok tt = search rules in
+    let quantities = c.check_each.ensures quantity_fault (λ k x r post. search rules) in
+    let conditions = c.check_each-2.ensures (condition_fault (contents c.args.self.now)) (λ k x r post. search rules) in
+    let moves = c.check_each-3.ensures (move_fault (contents c.args.self.now)) (λ k x r post. search rules) in
+    let is : c.from_residual-in_err-check_each-3.result ≡ Err c.in_err-check_each-3.field-0.0 = search rules in
+    full _ _ (is ∙ sym (told_next _ _ sizes ∙ told_next _ _ (sym quantities ∙ c.in_ok-check_each.was) ∙ told_next _ _ (sym conditions ∙ c.in_ok-check_each-2.was) ∙ told_here _ _ _ (sym moves ∙ c.in_err-check_each-3.was)))
 
 pub returns : goal.returns
 unfolding first_fault
 returns c =
-    let n0 = told_ok _ (sym c.check_sizes.ensures ∙ c.in_ok-check_sizes.was) in
-    let n1 = told_ok _ (sym c.check_quantities.ensures ∙ c.in_ok-check_quantities.was) in
-    let n2 = told_ok _ (sym c.check_conditions.ensures ∙ c.in_ok-check_conditions.was) in
-    let n3 = told_ok _ (sym c.check_moves.ensures ∙ c.in_ok-check_moves.was) in
-    full _ _ (c.check_goal.ensures ∙ sym (ap told (or_skip _ _ n0 ∙ or_skip _ _ n1 ∙ or_skip _ _ n2 ∙ or_skip _ _ n3)))
+    let same : c.in_ok-bounded.bounded.tables ≡ c.args.self.now = search rules in
+    let sizes : told (sizes_fault (contents c.args.self.now)) ≡ Ok tt = search rules in
+    let quantities = c.check_each.ensures quantity_fault (λ k x r post. search rules) in
+    let conditions = c.check_each-2.ensures (condition_fault (contents c.args.self.now)) (λ k x r post. search rules) in
+    let moves = c.check_each-3.ensures (move_fault (contents c.args.self.now)) (λ k x r post. search rules) in
+    let goal : c.check_goal.result ≡ told (goal_fault (contents c.args.self.now)) = search rules in
+    full _ _ (goal ∙ sym (told_next _ _ sizes ∙ told_next _ _ (sym quantities ∙ c.in_ok-check_each.was) ∙ told_next _ _ (sym conditions ∙ c.in_ok-check_each-2.was) ∙ told_next _ _ (sym moves ∙ c.in_ok-check_each-3.was)))

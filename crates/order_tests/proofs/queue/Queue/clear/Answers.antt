@@ -1,4 +1,3 @@
-use mathlib.Core.Logic.{∥∥₁_map}
 use Rattle.std.proofs.Common.{◌∙◌}
 use Rattle.order.proofs.Members.{pop_all}
 use Rattle.order_tests.specs.Numbered.{Small}
@@ -6,13 +5,9 @@ use Rattle.order_tests.proofs.Emptied.{emptying_more}
 use Rattle.order_tests.proofs.queue.Queue.clear.Goals as goal
 
 pub invariant_of-self : goal.invariant_of-self
-invariant_of-self c =
-    let was = c.loop.self in
-    let left = pop_all was.heap c.pop.new.self c.pop.result c.pop.ensures.popped Small in
-    record { lawful = c.pop.ensures.lawful; small = ∥∥₁_map was.small left }
+invariant_of-self c = record { small = pop_all c.loop.self.heap c.pop.new.self c.pop.result c.pop.ensures.popped Small c.loop.self.small }
 
 pub loop-preserved : goal.loop-preserved
 loop-preserved c =
-    let h = c.args.self.now.heap in
     let l = c.loop in
-    (c.pop.ensures.lender ∙ l.invariant.0, emptying_more h l.self.heap c.pop.new.self c.in-Some.field-0 l.invariant.1 c.in-Some.ensures.popped)
+    (c.pop.ensures.lender ∙ l.invariant.0, emptying_more c.args.self.now.heap l.self.heap c.pop.new.self c.in-Some.field-0 l.invariant.1 c.in-Some.ensures.popped)

@@ -1,43 +1,26 @@
-use Rattle.std.proofs.Common.{◌&&◌, sym, ap, ◌∙◌, ap₂}
+use Rattle.std.proofs.Common.{◌∙◌, ap₂, rules}
+use Rattle.std.proofs.lemmas.Iterator.Adapters.{serves_from_places}
+use Rattle.std.proofs.lemmas.Iterator.Search.{all_from_yields_List}
+use borrow.Author.Tests.{tests}
 use Rattle.tables.specs.Chains.{chain}
-use Rattle.task.specs.States.{all_hold}
-use Rattle.task.specs.Tasks.{problem}
 use Rattle.tables.specs.declared.Role.TheVariants.{Needs}
-use Rattle.task.proofs.Along.{going_start, going_step, going_end, kept_rules}
+use Rattle.task.specs.States.{need_holds, all_hold}
+use Rattle.task.specs.Tasks.{problem}
+use Rattle.task.proofs.Roads.{chain_road, can_walk, link_fits, all_hold_list}
 use Rattle.task.proofs.accepted.Task.needs_hold.Goals as goal
 
-pub loop-need-init : goal.loop-need-init
-loop-need-init c =
-    let it = c.into_iter-need-iterator.ensures.into_iter_gives in
-    let links = ap (λ k. k.links.now) it ∙ c.new-need-items.ensures.0 in
-    let at = ap (λ k. k.at) it ∙ c.new-need-items.ensures.1 in
-    let g = going_start (problem c.args.self.now) Needs c.args.first _ _ (kept_rules c.args.self.now) c.requires links at in
-    (g.can, tt, g, ap₂ (λ ls n. all_hold (problem c.args.self.now) c.args.state.now (chain ls n)) links at)
+pub all-requires-clause-can : goal.all-requires-clause-can
+all-requires-clause-can c = can_walk (problem c.args.self.now) Needs c.args.first c.requires c.new.result c.new.ensures.0 c.new.ensures.1
 
-pub need_holds-requires : goal.need_holds-requires
-need_holds-requires c = let e = c.in-Some.ensures in (going_step _ Needs _ _ _ _ _ c.loop-need.invariant.2 e.steps (e.goes.on tt)).fits
-
-pub returns-then-not-need_holds : goal.returns-then-not-need_holds
-returns-then-not-need_holds c =
-    let e = c.in-Some.ensures in
-    let p = problem c.args.self.now in
-    let s = c.args.state.now in
-    let g = going_step _ Needs _ _ _ _ _ c.loop-need.invariant.2 e.steps (e.goes.on tt) in
-    ap (λ b. b && all_hold p s (chain c.next.new.self.links.now c.next.new.self.at)) c.if-not-need_holds.ensures
-    ∙ sym (ap (all_hold p s) g.first) ∙ c.loop-need.invariant.3
-
-pub loop-need-preserved : goal.loop-need-preserved
-loop-need-preserved c =
-    let e = c.in-Some.ensures in
-    let p = problem c.args.self.now in
-    let s = c.args.state.now in
-    let g = going_step _ Needs _ _ _ _ _ c.loop-need.invariant.2 e.steps (e.goes.on tt) in (
-      g.rest.can,
-      tt,
-      g.rest,
-      ap (λ b. b && all_hold p s (chain c.next.new.self.links.now c.next.new.self.at)) c.if-not-need_holds.ensures
-          ∙ sym (ap (all_hold p s) g.first) ∙ c.loop-need.invariant.3,
-    )
+pub all-requires-clause-callable : goal.all-requires-clause-callable
+all-requires-clause-callable c =
+    serves_from_places (chain_road c.new.result) (λ x q r. search (rules, tests))
+    (λ x k h e. let f = link_fits (problem c.args.self.now) Needs c.args.first c.requires c.new.result c.new.ensures.0 c.new.ensures.1 x k h e in search rules)
 
 pub returns : goal.returns
-returns c = sym (ap (all_hold (problem c.args.self.now) c.args.state.now) (going_end _ _ _ _ c.in-None.ensures.steps)) ∙ c.loop-need.invariant.3
+returns c =
+    let p = problem c.args.self.now in
+    let s = c.args.state.now in
+    all_from_yields_List (need_holds p s) c.all.new.self _ c.all.result c.all.ensures.ran (chain_road c.new.result) (λ x b q k. search (rules, tests))
+    ∙ all_hold_list p s (chain c.new.result.links.now c.new.result.at)
+    ∙ ap₂ (λ ls n. all_hold p s (chain ls n)) c.new.ensures.0 c.new.ensures.1

@@ -1,0 +1,121 @@
+// LM-cut as an estimator, and the landmark records behind its answers.
+ghost use Rattle.std.specs.Prelude.{◌≡◌, ℕ, true, List, length, Some};
+ghost use Rattle.task.specs.States.{is_state};
+ghost use Rattle.task.specs.Tasks.{problem};
+ghost use Rattle.landmarks.specs.Laws.{Landmarked, Explained};
+ghost use Rattle.landmarks.specs.Relaxed.{relaxed};
+ghost use Rattle.landmarks.specs.Rounds.{Found, outcome, estimate, grounds};
+ghost use Rattle.lmcut.specs.Recorded.{fault_number, fault_place, fault_text, recorded, record_buffer};
+ghost use Rattle.lmcut.specs.Totalled.{tally_of, laid};
+ghost use Rattle.landmarks.proofs.Soundness.{estimate_claims};
+ghost use Rattle.lmcut.specs.Answering.{none_estimate};
+
+use crate::prepare::*;
+use crate::question::Asked;
+use crate::rounds::*;
+use estimate::estimate::Estimate;
+use estimate::estimator::Estimator;
+use landmarks::Ground;
+use std::error::Error;
+use std::fmt;
+use task::accepted::Task;
+use task::state::State;
+
+// Answers by the rounds of LM-cut.
+#[derive(Clone, Copy)]
+pub struct LmCut;
+
+// Why landmark records are refused.
+#[derive(Clone, Copy, PartialEq, Eq, Debug)]
+pub enum GroundsFault {
+    TooShort,
+}
+
+impl GroundsFault {
+    // The number of the broken rule.
+    pub fn number(self) -> u32
+        ensures { result ≡ fault_number self }
+    {
+        match self {
+            GroundsFault::TooShort => 8,
+        }
+    }
+
+    // The place of the fault: it has none.
+    pub fn place(self) -> u32
+        ensures { result ≡ fault_place self }
+    {
+        match self {
+            GroundsFault::TooShort => 0,
+        }
+    }
+}
+
+impl fmt::Display for GroundsFault {
+    ghost output = { λ fault. Some (fault_text fault) };
+
+    fn fmt<W: fmt::Write>(&self, f: &mut fmt::Formatter<W>) -> fmt::Result {
+        write!(f, "rule {}", self.number())
+    }
+}
+
+impl Error for GroundsFault {}
+
+// Makes the rounds at a state, and writes their landmark records as far as there is room. None where the state is dead.
+fn rounds(task: &Task, state: &State, records: &mut [Ground]) -> Option<Tally>
+    requires { is_state (problem task.now) state.now ≡ true }
+    ensures tallied { result ≡ tally_of (outcome (relaxed (problem task.now) state.now)) }
+    ensures written { (t : ℕ) (gs : List Ground) → outcome (relaxed (problem task.now) state.now) ≡ Found t gs → records.new ≡ laid gs records.old }
+{
+    let mut question = BLANK;
+    prepare(task, state, &mut question);
+    Asked {
+        question: &question,
+    }
+    .run(records)
+}
+
+impl Estimator for LmCut {
+    ghost answer = { λ _. estimate };
+
+    ghost sound = { λ e p s a i. estimate_claims p a s };
+
+    ghost plain = { λ e p s i. none_estimate p s i };
+
+    fn ask(&self, task: &Task, state: &State) -> Estimate {
+        if !task.is_state(state) {
+            return Estimate::AtLeast(0);
+        }
+        match rounds(task, state, &mut []) {
+            None => Estimate::Dead,
+            Some(tally) => Estimate::AtLeast(tally.total.div_ceil(PARTS).min(MOST_TOLD)),
+        }
+    }
+}
+
+impl LmCut {
+    // Writes the landmark records of the answer at a record of a task to the front of a buffer, and tells how many there are.
+    pub fn grounds(
+        &self,
+        task: &Task,
+        state: &State,
+        buffer: &mut [Ground],
+    ) -> Result<usize, GroundsFault>
+        ensures told { result ≡ recorded (problem task.now) state.now (length buffer.old) }
+        ensures written { buffer.new ≡ record_buffer (problem task.now) state.now buffer.old }
+        ensures landmarks { Landmarked (problem task.now) state.now (grounds (problem task.now) state.now) }
+        ensures explained { Explained (problem task.now) state.now }
+    {
+        if !task.is_state(state) {
+            return Ok(0);
+        }
+        let Some(tally) = rounds(task, state, &mut []) else {
+            return Ok(0);
+        };
+        if tally.records > buffer.len() {
+            return Err(GroundsFault::TooShort);
+        }
+        let _ = rounds(task, state, buffer);
+        Ok(tally.records)
+    }
+}

@@ -1,5 +1,0 @@
-use Rattle.lmcut_words.proofs.Marking.{MarkedUpTo}
-use Rattle.lmcut_words.proofs.marks.mark_all.Given as goal
-
-abbrev pub invariant-loop-action : goal.invariant-loop-action
-invariant-loop-action l = MarkedUpTo l.needs l.action l.words

@@ -1,0 +1,2 @@
+-- What the samples' contracts speak of.
+pub mod Texts

@@ -1,4 +1,0 @@
-use Rattle.vectors.proofs.answer.show_plan_fault.Goals as goal
-
-pub returns : goal.returns
-returns g c = simp (c.number-number.ensures, c.position-position.ensures) at c.write.ensures.writes

@@ -1,3 +1,0 @@
-mod Buffers
-mod Printing
-mod Steps

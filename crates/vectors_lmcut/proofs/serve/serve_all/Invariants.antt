@@ -1,8 +1,0 @@
-use Rattle.std.proofs.Common.{◌≡◌, ◌++◌, map, take, vec_items}
-use Rattle.task.specs.Tasks.{problem}
-use Rattle.vectors_lmcut.specs.Answers.{served}
-use Rattle.vectors_lmcut.specs.Said.{seen}
-use Rattle.vectors_lmcut.proofs.serve.serve_all.Given as goal
-
-abbrev pub invariant-loop-directive : goal.invariant-loop-directive
-invariant-loop-directive l = map seen (vec_items l.said) ≡ map seen (vec_items l.initial.said) ++ map (served (problem l.task)) (take l.directive-index l.rest)
