@@ -17,6 +17,7 @@ use task::accepted::Task;
 const ASKED: u32 = 512;
 
 // What LM-cut's answers along walks of sixteen states add up to, where each state follows by the next move in turn, if it is allowed.
+// The loop counts turns and indexes nothing.
 fn asked(task: &Task, moves: u32) -> u64 {
     let mut state = task.start_state();
     let mut sum = 0u64;

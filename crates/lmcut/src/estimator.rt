@@ -25,7 +25,7 @@ use task::state::State;
 #[derive(Clone, Copy)]
 pub struct LmCut;
 
-// Why landmark records are refused.
+// Why landmark records are refused: the error of a `Result`, which has one case.
 #[derive(Clone, Copy, PartialEq, Eq, Debug)]
 pub enum GroundsFault {
     TooShort,

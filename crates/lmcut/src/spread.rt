@@ -65,7 +65,8 @@ impl Graph<'_> {
         found
     }
 
-    // The helper's chosen need, as a word, where its edge to the goal node weighs 0.
+    // The helper's chosen need, as a word, where its edge to the goal node weighs 0. That edge is in no word, and weighs what is left
+    // of its cost, so `lead` does not serve.
     fn last_lead(&self) -> u128
         ensures { Sources self.now.asked.question.now self.now.left.now.of self.now.sources.now (self.now.asked.question.now.nodes - 1) 0 384 result }
     {

@@ -17,7 +17,7 @@ pub(crate) struct Position<'a> {
     ghost state_of: { is_state (problem task.now) state.now ≡ true },
 }
 
-// Which nodes hold, and the shortfall of each condition that does not.
+// Which nodes hold, and the shortfall of each condition that does not: an array over nodes and one over conditions.
 #[derive(Clone, Copy)]
 pub(crate) struct Met {
     pub(crate) holds: [bool; 129],

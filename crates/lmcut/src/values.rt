@@ -44,6 +44,7 @@ impl<'q, 'h> Settling<'q, 'h> {
     {
         let mut open_nodes = 0u128;
         let mut values = [INFINITE; 129];
+        // By index: a node's number is its bit in the word too.
         for (node, holds) in asked.question.holds[..asked.question.nodes - 1]
             .iter()
             .enumerate()

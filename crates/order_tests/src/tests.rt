@@ -17,7 +17,7 @@ fn next(seed: u64) -> u64 {
         .wrapping_add(1442695040888963407)
 }
 
-// An entry with few values, so that some are tied in part and some are equal.
+// An entry with few values, so that some are tied in part and some are equal. Fields and remainders are each type's own.
 fn some_two(seed: u64) -> ByTwo {
     ByTwo {
         value: (seed >> 40) % 5,

@@ -17,6 +17,7 @@ const LARGER: LargerOf<Floor, LmCut> = LargerOf {
     second: LmCut,
 };
 
+// Four zeros; the library has no such record.
 const NO_GROUND: Ground = Ground {
     round: 0,
     weight: 0,
@@ -38,6 +39,7 @@ fn say_grounds(rt: &impl Print, task: &Task, state: &State) -> anyhow::Result<()
     Ok(())
 }
 
+// Prints one of them, in this program's words.
 fn say_ground(rt: &impl Print, ground: &Ground) -> anyhow::Result<()> {
     let Ground {
         round,

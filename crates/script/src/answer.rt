@@ -12,7 +12,7 @@ use std::fmt;
 use tables::fault::TaskFault;
 use task::plan::PlanFault;
 
-// `NothingAccepted` answers a directive that needs an accepted task and has none, `NotServed` one that is known and not served
+// A case for each line that the format has. `NothingAccepted` answers a directive that needs an accepted task and has none, `NotServed` one that is known and not served
 // yet, and `BadLine` a malformed line, by its number.
 #[derive(Drop)]
 pub enum Answer {

@@ -50,7 +50,7 @@ fn read_bytes<const LMCUT: bool>(heap: Global, bytes: &[u8]) -> Result<Line, Lin
     read_text::<LMCUT>(heap, text)
 }
 
-// What a text says, by its first word.
+// What a text says, by its first word. A `match`: the words are few and fixed, and a table of functions would hand pointers out.
 fn read_text<const LMCUT: bool>(heap: Global, text: &str) -> Result<Line, LineFault>
     ensures { IfOk result (λ line. Reads LMCUT text.now line) }
 {

@@ -1,4 +1,5 @@
-// The lines that fill the tables of a block: `head`, `q`, `c`, `m` and `l`.
+// The lines that fill the tables of a block: `head`, `q`, `c`, `m` and `l`. Each makes its own record, of numbers of its own types;
+// what they share is `three`.
 ghost use Rattle.std.specs.Prelude.{◌≡◌, pos, negsuc, ◌≤ℤ◌, ◌<ℤ◌, MatchOption, OnSome, IfOk, codes};
 ghost use Rattle.script.specs.Lines.{record_word, Written};
 ghost use Rattle.script.specs.Unread.{unread};
