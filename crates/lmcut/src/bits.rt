@@ -78,7 +78,16 @@ impl Iterator for ActionBits {
     ghost remaining = { λ s. at_most (sum s.words) };
 
     fn next(&mut self) -> Option<usize> {
-        let part = self.words.iter().position(|word| *word != 0)?;
-        Some(128 * part + take_lowest(&mut self.words[part]))
+        // Word by word, and no search for one that is not 0: so the words can stand in registers.
+        if self.words[0] != 0 {
+            return Some(take_lowest(&mut self.words[0]));
+        }
+        if self.words[1] != 0 {
+            return Some(128 + take_lowest(&mut self.words[1]));
+        }
+        if self.words[2] != 0 {
+            return Some(256 + take_lowest(&mut self.words[2]));
+        }
+        None
     }
 }

@@ -29,12 +29,10 @@ impl Doing {
         let mut sets = 0u64;
         let mut changes = [0i64; 16];
         for link in Chain::new(task.tables().links, first) {
-            match LinkKind::try_from(link.kind) {
-                Ok(LinkKind::Set) => sets |= 1 << link.subject,
-                Ok(LinkKind::Change) => {
-                    changes[link.subject as usize - 1] += i64::from(link.amount);
-                }
-                _ => {}
+            if link.kind == LinkKind::Set as u32 {
+                sets |= 1 << link.subject;
+            } else if link.kind == LinkKind::Change as u32 {
+                changes[link.subject as usize - 1] += i64::from(link.amount);
             }
         }
         Doing { sets, changes }

@@ -1,12 +1,9 @@
 // LM-cut as an estimator, and the landmark records behind its answers.
-ghost use Rattle.std.specs.Prelude.{◌≡◌, ℕ, true, List, length, Some};
-ghost use Rattle.task.specs.States.{is_state};
+ghost use Rattle.std.specs.Prelude.{◌≡◌, length, Some};
 ghost use Rattle.task.specs.Tasks.{problem};
 ghost use Rattle.landmarks.specs.Laws.{Landmarked, Explained};
-ghost use Rattle.landmarks.specs.Relaxed.{relaxed};
-ghost use Rattle.landmarks.specs.Rounds.{Found, outcome, estimate, grounds};
+ghost use Rattle.landmarks.specs.Rounds.{estimate, grounds};
 ghost use Rattle.lmcut.specs.Recorded.{fault_number, fault_place, fault_text, recorded, record_buffer};
-ghost use Rattle.lmcut.specs.Totalled.{tally_of, laid};
 ghost use Rattle.landmarks.proofs.Soundness.{estimate_claims};
 ghost use Rattle.lmcut.specs.Answering.{none_estimate};
 
@@ -61,20 +58,6 @@ impl fmt::Display for GroundsFault {
 
 impl Error for GroundsFault {}
 
-// Makes the rounds at a state, and writes their landmark records as far as there is room. None where the state is dead.
-fn rounds(task: &Task, state: &State, records: &mut [Ground]) -> Option<Tally>
-    requires { is_state (problem task.now) state.now ≡ true }
-    ensures tallied { result ≡ tally_of (outcome (relaxed (problem task.now) state.now)) }
-    ensures written { (t : ℕ) (gs : List Ground) → outcome (relaxed (problem task.now) state.now) ≡ Found t gs → records.new ≡ laid gs records.old }
-{
-    let mut question = BLANK;
-    prepare(task, state, &mut question);
-    Asked {
-        question: &question,
-    }
-    .run(records)
-}
-
 impl Estimator for LmCut {
     ghost answer = { λ _. estimate };
 
@@ -86,7 +69,12 @@ impl Estimator for LmCut {
         if !task.is_state(state) {
             return Estimate::AtLeast(0);
         }
-        match rounds(task, state, &mut []) {
+        let mut question = BLANK;
+        prepare(task, state, &mut question);
+        let asked = Asked {
+            question: &question,
+        };
+        match asked.run(&mut []) {
             None => Estimate::Dead,
             Some(tally) => Estimate::AtLeast(tally.total.div_ceil(PARTS).min(MOST_TOLD)),
         }
@@ -109,13 +97,19 @@ impl LmCut {
         if !task.is_state(state) {
             return Ok(0);
         }
-        let Some(tally) = rounds(task, state, &mut []) else {
+        // One question for both runs.
+        let mut question = BLANK;
+        prepare(task, state, &mut question);
+        let asked = Asked {
+            question: &question,
+        };
+        let Some(tally) = asked.run(&mut []) else {
             return Ok(0);
         };
         if tally.records > buffer.len() {
             return Err(GroundsFault::TooShort);
         }
-        let _ = rounds(task, state, buffer);
+        let _ = asked.run(buffer);
         Ok(tally.records)
     }
 }

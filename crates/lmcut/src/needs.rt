@@ -17,9 +17,10 @@ pub(crate) fn needs_word(task: &Task, first: u32) -> u128
     let facts = task.tables().head.facts;
     let mut word = 0u128;
     for link in Chain::new(task.tables().links, first) {
-        let node = match LinkKind::try_from(link.kind) {
-            Ok(LinkKind::Fact) => link.subject,
-            _ => facts + link.subject - 1,
+        let node = if link.kind == LinkKind::Fact as u32 {
+            link.subject
+        } else {
+            facts + link.subject - 1
         };
         word |= 1 << node;
     }

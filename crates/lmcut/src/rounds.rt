@@ -30,9 +30,12 @@ impl Asked<'_> {
     fn full_costs(self) -> Left
         ensures { take self.entry.question.now.actions result.of ≡ full_costs (relaxed_of self.entry.question.now).actions }
     {
-        Left {
-            of: self.question.costs.map(|cost| PARTS * u64::from(cost)),
+        // A loop and not `map` of the array, which copies it several times.
+        let mut of = [0; 257];
+        for (action, left) in of.iter_mut().enumerate() {
+            *left = PARTS * u64::from(self.question.costs[action]);
         }
+        Left { of }
     }
 
     // Makes the rounds and writes their landmark records, as far as there is room; all of them are counted. None where the goal's

@@ -99,11 +99,9 @@ impl Graph<'_> {
     {
         let sources = self.sources;
         let mut zone = from;
-        for (&source, &reach) in sources[..self.asked.question.actions]
-            .iter()
-            .zip(&self.asked.question.reach)
-        {
+        for (action, &source) in sources[..self.asked.question.actions].iter().enumerate() {
             if starts(source, zone) {
+                let reach = self.asked.question.reach[action];
                 zone |= reach ^ (reach & near);
             }
         }

@@ -50,7 +50,7 @@ module _ {X : Type 0} {R : X → X → Ordering} where
       (cases_eq k 0)
 
   -- what stands first
-  first_from : {g : ord.Ghosts X} {g' : eq.Ghosts X} {g'' : partial.Ghosts X} (h : Heap X g g' g'') (e : X) → 0 < h.len → Lawful R h → First R h (get_or h.entries.now 0 e)
+  pub first_from : {g : ord.Ghosts X} {g' : eq.Ghosts X} {g'' : partial.Ghosts X} (h : Heap X g g' g'') (e : X) → 0 < h.len → Lawful R h → First R h (get_or h.entries.now 0 e)
   first_from h e some l =
       let xs = h.entries.now in
       let n = h.len in

@@ -41,11 +41,12 @@ pub fn lower_of(a: ByTwo, b: ByTwo) -> Option<ByTwo>
     lowest_of(&mut [a; 2], a, b)
 }
 
-// The same of entries with three fields. Both are the generic one, with what it means in their fields.
+// The same of entries with three fields. Both are the generic one, with what it means in their fields; what the room holds before
+// does not count.
 pub fn sooner_of(a: ByThree, b: ByThree) -> Option<ByThree>
     ensures { MatchOption result ⊥ (λ x. ((x ≡ a) ⊎ (x ≡ b)) × Sooner x a × Sooner x b) }
 {
-    lowest_of(&mut [a; 2], a, b)
+    lowest_of(&mut [b; 2], a, b)
 }
 
 // What stands past the entries held is kept.

@@ -88,7 +88,7 @@ impl Block {
 
     // Takes in a record from a line: into the tables, or, where they are closed, as a malformed line.
     pub fn fill(&mut self, line: u64, record: Record) -> Result<(), AllocError>
-        ensures open { self.old.closed ≡ false → (filled self.new ≡ (if is_ok result then added (filled self.old) «record» else filled self.old)) × (asks self.new ≡ asks self.old) }
+        ensures open { self.old.closed ≡ false → (filled self.new ≡ (if is_ok result then added (filled self.old) «record» else filled self.old)) × (self.new.asked ≡ self.old.asked) }
         ensures closed { self.old.closed ≡ true → (filled self.new ≡ filled self.old) × (asks self.new ≡ (if is_ok result then asks self.old ++ Directive.Malformed line ∷ [] else asks self.old)) }
         ensures stays { self.new.closed ≡ self.old.closed }
     {
@@ -102,7 +102,7 @@ impl Block {
     // Puts a record at the end of its table; a head takes the place of the one before. Without memory nothing changes.
     fn add(&mut self, record: Record) -> Result<(), AllocError>
         ensures tables { filled self.new ≡ (if is_ok result then added (filled self.old) «record» else filled self.old) }
-        ensures rest { (asks self.new ≡ asks self.old) × (self.new.closed ≡ self.old.closed) }
+        ensures rest { (self.new.asked ≡ self.old.asked) × (self.new.closed ≡ self.old.closed) }
     {
         match record {
             Record::Head(head) => self.head = head,

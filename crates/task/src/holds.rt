@@ -57,9 +57,10 @@ impl Task<'_> {
         requires { LinkFits (problem self.now) Needs need.now }
         ensures { result ≡ need_holds (problem self.now) state.now need.now }
     {
-        match LinkKind::try_from(need.kind) {
-            Ok(LinkKind::Fact) => (state.facts >> need.subject) & 1 == 1,
-            _ => self.condition_holds(need.subject, state),
+        if need.kind == LinkKind::Fact as u32 {
+            (state.facts >> need.subject) & 1 == 1
+        } else {
+            self.condition_holds(need.subject, state)
         }
     }
 

@@ -73,10 +73,12 @@ impl Task<'_> {
         let mut sets = 0u64;
         let mut clears = 0u64;
         for link in Chain::new(self.tables.links, first) {
-            match LinkKind::try_from(link.kind) {
-                Ok(LinkKind::Set) => sets |= 1 << link.subject,
-                Ok(LinkKind::Clear) => clears |= 1 << link.subject,
-                _ => values[link.subject as usize - 1] = self.changed(&link, state)?,
+            if link.kind == LinkKind::Set as u32 {
+                sets |= 1 << link.subject;
+            } else if link.kind == LinkKind::Clear as u32 {
+                clears |= 1 << link.subject;
+            } else {
+                values[link.subject as usize - 1] = self.changed(&link, state)?;
             }
         }
         let kept = state.facts ^ (state.facts & clears);

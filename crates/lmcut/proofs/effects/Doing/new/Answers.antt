@@ -1,4 +1,4 @@
-use Rattle.std.proofs.Common.{◌≡◌, ◌-◌, set, sym, ap, ◌∙◌, subst, inl, arith, w32, SFits, rules}
+use Rattle.std.proofs.Common.{◌-◌, set, sym, ap, ◌∙◌, subst, inl, arith, w32, SFits, rules}
 use lib.Bits.{bit_or}
 use Rattle.std.proofs.lemmas.Nat.{one_shl}
 use Rattle.tables.specs.Chains.{chain}
@@ -21,42 +21,35 @@ gone : (c : In-Some) → Gone (problem c.args.task.now) Effects c.in-Some.link c
 gone c = let e = c.in-Some.ensures in going_step _ Effects c.in-Some.link _ _ _ _ c.loop-link.invariant.2.going e.steps (e.goes.on tt)
 
 pub overflow_shl-sets : goal.overflow_shl-sets
-overflow_shl-sets c = let k : c.in-Some.link.kind ≡ 4 = search rules in effect_fact _ _ (kept_rules c.args.task.now) (gone (goal.at.overflow_shl-sets c).In-Some).fits (inl k)
+overflow_shl-sets c = effect_fact _ _ (kept_rules c.args.task.now) (gone (goal.at.overflow_shl-sets c).In-Some).fits (inl c.if-link.true)
 
-pub loop-link-preserved-in-Set-1 : goal.loop-link-preserved-in-Set-1
-loop-link-preserved-in-Set-1 c =
-    let g = gone (goal.at.loop-link-preserved-in-Set-1 c).In-Some in
-    let is : c.in-Some.link.kind ≡ 4 = search rules in
+pub loop-link-preserved-then-link : goal.loop-link-preserved-then-link
+loop-link-preserved-then-link c =
+    let g = gone (goal.at.loop-link-preserved-then-link c).In-Some in
+    let is = c.if-link.true in
     let k = effect_fact _ _ (kept_rules c.args.task.now) g.fits (inl is) in
     let w = added_set _ _ _ _ _ _ _ _ _ c.loop-link.invariant.2 g is k in
     (g.rest.can, tt, subst (λ b. Added (chain (problem c.args.task.now).links c.args.first) c.next.new.self.links.now c.next.new.self.at (bit_or c.loop-link.sets b) c.loop-link.changes (problem c.args.task.now)) (sym (one_shl _ 64 k)) w)
 
-pub loop-link-preserved-in-Term-1 : goal.loop-link-preserved-in-Term-1
-loop-link-preserved-in-Term-1 c =
-    let g = gone (goal.at.loop-link-preserved-in-Term-1 c).In-Some in
-    let n : c.in-Some.link.kind ≡ 4 → ⊥ = λ e. search rules in
-    let m : c.in-Some.link.kind ≡ 6 → ⊥ = λ e. search rules in
-    (g.rest.can, tt, added_other _ _ _ _ _ _ _ _ _ c.loop-link.invariant.2 g n m)
-
 pub overflow_sub-changes : goal.overflow_sub-changes
-overflow_sub-changes c = (added_quantity _ _ (kept_rules c.args.task.now) (gone (goal.at.overflow_sub-changes c).In-Some).fits (search rules)).0
+overflow_sub-changes c = (added_quantity _ _ (kept_rules c.args.task.now) (gone (goal.at.overflow_sub-changes c).In-Some).fits c.if-link-2.true).0
 
 pub bounds-changes-link : goal.bounds-changes-link
 bounds-changes-link c =
-    let k : c.in-Some.link.kind ≡ 6 = search rules in
+    let k = c.if-link-2.true in
     let q = added_quantity _ _ (kept_rules c.args.task.now) (gone (goal.at.bounds-changes-link c).In-Some).fits k in
     omega (arith, q.0, q.1)
 
-pub bounds-changes-link-in-Ok-Change : goal.bounds-changes-link-in-Ok-Change
-bounds-changes-link-in-Ok-Change c =
-    let k : c.in-Some.link.kind ≡ 6 = search rules in
-    let q = added_quantity _ _ (kept_rules c.args.task.now) (gone (goal.at.bounds-changes-link-in-Ok-Change c).In-Some).fits k in
+pub bounds-changes-link-then-link-2 : goal.bounds-changes-link-then-link-2
+bounds-changes-link-then-link-2 c =
+    let k = c.if-link-2.true in
+    let q = added_quantity _ _ (kept_rules c.args.task.now) (gone (goal.at.bounds-changes-link-then-link-2 c).In-Some).fits k in
     omega (arith, q.0, q.1)
 
-pub loop-link-preserved-in-Change-1 : goal.loop-link-preserved-in-Change-1
-loop-link-preserved-in-Change-1 c =
-    let k : c.in-Some.link.kind ≡ 6 = search rules in
-    let g = gone (goal.at.loop-link-preserved-in-Change-1 c).In-Some in
+pub loop-link-preserved-then-link-2 : goal.loop-link-preserved-then-link-2
+loop-link-preserved-then-link-2 c =
+    let k = c.if-link-2.true in
+    let g = gone (goal.at.loop-link-preserved-then-link-2 c).In-Some in
     let f : SFits w32 c.in-Some.link.amount = search rules in
     let e = added_sum _ _ _ _ _ _ _ _ _ c.loop-link.invariant.2 g k f c.from.ensures in
     let w = added_change _ _ _ _ _ _ _ _ _ c.loop-link.invariant.2 g k (kept_rules c.args.task.now) in
@@ -65,9 +58,7 @@ loop-link-preserved-in-Change-1 c =
 pub loop-link-preserved : goal.loop-link-preserved
 loop-link-preserved c =
     let g = gone (goal.at.loop-link-preserved c).In-Some in
-    let n : c.in-Some.link.kind ≡ 4 → ⊥ = λ e. search rules in
-    let m : c.in-Some.link.kind ≡ 6 → ⊥ = λ e. search rules in
-    (g.rest.can, tt, added_other _ _ _ _ _ _ _ _ _ c.loop-link.invariant.2 g n m)
+    (g.rest.can, tt, added_other _ _ _ _ _ _ _ _ _ c.loop-link.invariant.2 g c.if-link.false c.if-link-2.false)
 
 pub returns : goal.returns
 returns c =

@@ -21,7 +21,7 @@ returns-in_default c =
     let p = problem c.args.task.now in
     let s = c.args.state.now in
     let a = (decides_accepted p).1 (kept_rules c.args.task.now) in
-    let g = grounds_are p s (sym c.if-not-is_state.ensures) Dead (ended_none _ c.in_default.ensures.tallied) in
+    let g = grounds_are p s (sym c.if-not-is_state.ensures) Dead (sym c.prepare.ensures.rounds ∙ ended_none _ c.in_default.ensures.tallied) in
     record { told = recorded_all p s [] _ g (omega arith); written = buffer_none p s c.args.buffer.now g; landmarks = grounds_stand p a s; explained = grounds_explain p a s }
 
 pub returns-then-tally-buffer : goal.returns-then-tally-buffer
@@ -30,7 +30,7 @@ returns-then-tally-buffer c =
     let s = c.args.state.now in
     let a = (decides_accepted p).1 (kept_rules c.args.task.now) in
     let e = ended_some _ c.in-Some.tally c.in-Some.ensures.tallied in
-    let g = grounds_are p s (sym c.if-not-is_state.ensures) (Found c.in-Some.tally.total e.records) e.is in
+    let g = grounds_are p s (sym c.if-not-is_state.ensures) (Found c.in-Some.tally.total e.records) (sym c.prepare.ensures.rounds ∙ e.is) in
     let l = e.long in
     record { told = recorded_short p s e.records _ g (omega arith); written = buffer_short p s e.records _ g (omega arith); landmarks = grounds_stand p a s; explained = grounds_explain p a s }
 
@@ -40,11 +40,11 @@ returns c =
     let s = c.args.state.now in
     let a = (decides_accepted p).1 (kept_rules c.args.task.now) in
     let e = ended_some _ c.in-Some.tally c.in-Some.ensures.tallied in
-    let g = grounds_are p s (sym c.if-not-is_state.ensures) (Found c.in-Some.tally.total e.records) e.is in
+    let g = grounds_are p s (sym c.if-not-is_state.ensures) (Found c.in-Some.tally.total e.records) (sym c.prepare.ensures.rounds ∙ e.is) in
     let l = e.long in
     record {
       told = ap Ok (sym l) ∙ recorded_all p s e.records _ g (omega arith);
-      written = c.rounds-2.ensures.written c.in-Some.tally.total e.records e.is ∙ buffer_all p s e.records _ g (omega arith);
+      written = c.run-2.ensures.written c.in-Some.tally.total e.records e.is ∙ buffer_all p s e.records _ g (omega arith);
       landmarks = grounds_stand p a s;
       explained = grounds_explain p a s;
     }

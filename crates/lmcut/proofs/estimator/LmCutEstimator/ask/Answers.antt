@@ -12,7 +12,7 @@ returns-then-not-is_state c = sym (none_estimate (problem c.args.task.now) c.arg
 pub returns-in-None : goal.returns-in-None
 returns-in-None c =
     let e = ended_none _ c.in-None.ensures.tallied in
-    sym (estimate_is (problem c.args.task.now) c.args.state.now (sym c.if-not-is_state.ensures) Dead e)
+    sym (estimate_is (problem c.args.task.now) c.args.state.now (sym c.if-not-is_state.ensures) Dead (sym c.prepare.ensures.rounds ∙ e))
 
 pub returns-in-Some : goal.returns-in-Some
 returns-in-Some c =
@@ -20,4 +20,4 @@ returns-in-Some c =
     let t = c.in-Some.tally.total in
     let m : min c.div_ceil.result 1000000000000 ≡ min (10 ^ 12) c.div_ceil.result = omega arith in
     ap AtLeast (c.min.ensures ∙ m ∙ ap (min (10 ^ 12)) (c.div_ceil.ensures ∙ ceil_is t 5040 (omega arith)))
-    ∙ sym (estimate_is (problem c.args.task.now) c.args.state.now (sym c.if-not-is_state.ensures) (Found t e.records) e.is)
+    ∙ sym (estimate_is (problem c.args.task.now) c.args.state.now (sym c.if-not-is_state.ensures) (Found t e.records) (sym c.prepare.ensures.rounds ∙ e.is))

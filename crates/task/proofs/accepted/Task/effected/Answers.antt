@@ -23,33 +23,33 @@ loop-link-init c =
     )
 
 pub overflow_shl-sets : goal.overflow_shl-sets
-overflow_shl-sets c = turn_fact c.args.self.now _ _ _ _ _ _ _ _ _ _ c.loop-link.invariant.2 c.in-Some.ensures.steps (c.in-Some.ensures.goes.on tt) (inl (sym (rw c.in-Ok-Set.field-0-is at c.in-Ok-Set.ensures)))
+overflow_shl-sets c = turn_fact c.args.self.now _ _ _ _ _ _ _ _ _ _ c.loop-link.invariant.2 c.in-Some.ensures.steps (c.in-Some.ensures.goes.on tt) (inl c.if-link.true)
 
 pub overflow_shl-clears : goal.overflow_shl-clears
-overflow_shl-clears c = turn_fact c.args.self.now _ _ _ _ _ _ _ _ _ _ c.loop-link.invariant.2 c.in-Some.ensures.steps (c.in-Some.ensures.goes.on tt) (inr (sym (rw c.in-Ok-Clear.field-0-is at c.in-Ok-Clear.ensures)))
+overflow_shl-clears c = turn_fact c.args.self.now _ _ _ _ _ _ _ _ _ _ c.loop-link.invariant.2 c.in-Some.ensures.steps (c.in-Some.ensures.goes.on tt) (inr c.if-link-2.true)
 
-pub loop-link-preserved-in-Set-1 : goal.loop-link-preserved-in-Set-1
-loop-link-preserved-in-Set-1 c = turn_sets c.args.self.now _ _ _ _ _ _ _ _ _ _ c.loop-link.invariant.2 c.in-Some.ensures.steps (c.in-Some.ensures.goes.on tt) (sym (rw c.in-Ok-Set.field-0-is at c.in-Ok-Set.ensures))
+pub loop-link-preserved-then-link : goal.loop-link-preserved-then-link
+loop-link-preserved-then-link c = turn_sets c.args.self.now _ _ _ _ _ _ _ _ _ _ c.loop-link.invariant.2 c.in-Some.ensures.steps (c.in-Some.ensures.goes.on tt) c.if-link.true
 
-pub loop-link-preserved-in-Clear-1 : goal.loop-link-preserved-in-Clear-1
-loop-link-preserved-in-Clear-1 c = turn_clears c.args.self.now _ _ _ _ _ _ _ _ _ _ c.loop-link.invariant.2 c.in-Some.ensures.steps (c.in-Some.ensures.goes.on tt) (sym (rw c.in-Ok-Clear.field-0-is at c.in-Ok-Clear.ensures))
+pub loop-link-preserved-then-link-2 : goal.loop-link-preserved-then-link-2
+loop-link-preserved-then-link-2 c = turn_clears c.args.self.now _ _ _ _ _ _ _ _ _ _ c.loop-link.invariant.2 c.in-Some.ensures.steps (c.in-Some.ensures.goes.on tt) c.if-link-2.true
 
 pub changed-requires : goal.changed-requires
-changed-requires c = let q = turn_quantity c.args.self.now _ _ _ _ _ _ _ _ _ _ c.loop-link.invariant.2 c.in-Some.ensures.steps (c.in-Some.ensures.goes.on tt) (λ k. search rules) (λ k. search rules) in (q.0, q.1)
+changed-requires c = let q = turn_quantity c.args.self.now _ _ _ _ _ _ _ _ _ _ c.loop-link.invariant.2 c.in-Some.ensures.steps (c.in-Some.ensures.goes.on tt) c.if-link.false c.if-link-2.false in (q.0, q.1)
 
 pub overflow_sub-values : goal.overflow_sub-values
-overflow_sub-values c = (turn_quantity c.args.self.now _ _ _ _ _ _ _ _ _ _ c.loop-link.invariant.2 c.in-Some.ensures.steps (c.in-Some.ensures.goes.on tt) (λ k. search rules) (λ k. search rules)).0
+overflow_sub-values c = (turn_quantity c.args.self.now _ _ _ _ _ _ _ _ _ _ c.loop-link.invariant.2 c.in-Some.ensures.steps (c.in-Some.ensures.goes.on tt) c.if-link.false c.if-link-2.false).0
 
 pub bounds-values-link : goal.bounds-values-link
-bounds-values-link c = let q = turn_quantity c.args.self.now _ _ _ _ _ _ _ _ _ _ c.loop-link.invariant.2 c.in-Some.ensures.steps (c.in-Some.ensures.goes.on tt) (λ k. search rules) (λ k. search rules) in omega (arith, q.0, q.2)
+bounds-values-link c = let q = turn_quantity c.args.self.now _ _ _ _ _ _ _ _ _ _ c.loop-link.invariant.2 c.in-Some.ensures.steps (c.in-Some.ensures.goes.on tt) c.if-link.false c.if-link-2.false in omega (arith, q.0, q.2)
 
-pub returns-in_err-values-in_default : goal.returns-in_err-values-in_default
-returns-in_err-values-in_default c = c.from_residual.ensures ∙ turn_out c.args.self.now _ _ _ _ _ _ _ _ _ _ c.loop-link.invariant.2 c.in-Some.ensures.steps (c.in-Some.ensures.goes.on tt) (λ k. search rules) (λ k. search rules) (sym c.changed.ensures ∙ c.in_err-values-in_default.was)
+pub returns-in_err-values : goal.returns-in_err-values
+returns-in_err-values c = c.from_residual.ensures ∙ turn_out c.args.self.now _ _ _ _ _ _ _ _ _ _ c.loop-link.invariant.2 c.in-Some.ensures.steps (c.in-Some.ensures.goes.on tt) c.if-link.false c.if-link-2.false (sym c.changed.ensures ∙ c.in_err-values.was)
 
 pub loop-link-preserved : goal.loop-link-preserved
 loop-link-preserved c =
-    let f : SFits w32 c.in_ok-values-in_default.field-0 = search rules in
-    turn_change c.args.self.now _ _ _ _ _ _ _ _ _ _ c.loop-link.invariant.2 c.in-Some.ensures.steps (c.in-Some.ensures.goes.on tt) (λ k. search rules) (λ k. search rules) _ (sym c.changed.ensures ∙ c.in_ok-values-in_default.was ∙ ap Some (sym (to_z-of_z w32 _ f)))
+    let f : SFits w32 c.in_ok-values.field-0 = search rules in
+    turn_change c.args.self.now _ _ _ _ _ _ _ _ _ _ c.loop-link.invariant.2 c.in-Some.ensures.steps (c.in-Some.ensures.goes.on tt) c.if-link.false c.if-link-2.false _ (sym c.changed.ensures ∙ c.in_ok-values.was ∙ ap Some (sym (to_z-of_z w32 _ f)))
 
 pub returns : goal.returns
 returns c = effected_end _ _ _ _ _ _ _ _ c.loop-link.invariant.2 (going_end _ _ _ _ c.in-None.ensures.steps)
