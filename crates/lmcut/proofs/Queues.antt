@@ -1,5 +1,5 @@
 -- The heap of the nodes that wait: what each call does to it, and that its first entry is of lowest value.
-use Rattle.std.proofs.Common.{◌≡◌, ℕ, ◌+◌, ◌-◌, ◌*◌, ◌%◌, ◌^◌, ◌<◌, ◌≤◌, true, false, eqb, ◌⊎◌, List, [], ◌∷◌, map, length, get_or, take, set, sum_by, Ordering, Less, Equal, Greater, sym, refl, ap, ◌∙◌, subst, ap₂, inl, inr, ⊎_elim, arith}
+use Rattle.std.proofs.Common.{min, length-take, ◌≡◌, ℕ, ◌+◌, ◌-◌, ◌*◌, ◌%◌, ◌^◌, ◌<◌, ◌≤◌, true, false, eqb, ◌⊎◌, List, [], ◌∷◌, map, length, get_or, take, set, sum_by, Ordering, Less, Equal, Greater, sym, refl, ap, ◌∙◌, subst, ap₂, inl, inr, ⊎_elim, arith}
 use lib.Bits.{bit_and, bit_xor}
 use mathlib.Core.Logic.{∥∥₁_elim, ∥∥₁_map}
 use Rattle.std.proofs.Props.{props}
@@ -14,7 +14,7 @@ use Rattle.std.specs.List.{AllByRecursion, Contains}
 use Rattle.order.specs.Laws.{held, room, First, Lowered, Popped, Pushed, Same, Unmet}
 use Rattle.order.specs.Ranks.{AtMost}
 use Rattle.order.proofs.Fields.{unsigned_less, unsigned_tied, fields_at_most, fields_tied}
-use Rattle.order.proofs.Members.{has_here, has_there, has_cons, pushed_has_new, pushed_has, pushed_only, pushed_sum, popped_has, popped_only, popped_sum, lowered_has_new, lowered_has, lowered_only, lowered_was, lowered_sum, length_held, first_at_most}
+use Rattle.order.proofs.Members.{has_here, has_there, has_cons, pushed_has_new, pushed_has, pushed_only, pushed_sum, popped_has, popped_only, popped_sum, lowered_has_new, lowered_has, lowered_only, lowered_was, lowered_sum, first_at_most}
 use Rattle.tables.specs.Rules.{Once}
 use Rattle.task.specs.States.{fact_holds}
 use Rattle.lmcut.specs.Valued.{infinite}
@@ -121,12 +121,15 @@ entry_same n a b e = ap (λ v. entry v n) e
 
 -- ---- no entry
 
+held_long : (h : NodeHeap) → length (held h) ≡ min h.len (room h)
+held_long h = length-take h.len h.entries.now
+
 pub queued_none_yet : (xs : List ℕ) (w nodes : ℕ) (h : NodeHeap) → ((n : ℕ) → n + 1 < nodes → fact_holds w n ≡ true → get_or xs n 0 ≡ infinite) → h.len ≡ 0 → room h ≡ 129 → Queued xs w nodes h
 queued_none_yet xs w nodes h b z r =
     record {
       roomy = r;
       once = λ n. subst (λ k. sum_by (named n) (take k h.entries.now) ≤ 1) (sym z) (omega arith);
-      only = λ v m. absurd (let k = length_held h in let i = m.1 in omega arith);
+      only = λ v m. absurd (let k = held_long h in let i = m.1 in omega arith);
       each = λ n t. absurd (t.finite (b n t.inside t.waits));
     }
 
@@ -138,13 +141,13 @@ module _ (xs : List ℕ) (w nodes : ℕ) (h : NodeHeap) (qd : Queued xs w nodes 
       (All-weaker (Contains (held h)) (λ z. z.number < nodes - 1) (λ z i. let t = (qd.only z i).0.inside in omega arith) (held h) (All-contains_itself (held h)))) in
       let p = pigeonhole (nodes - 1) (numbers (held h)) (once_numbers (held h) qd.once) below in
       let l = length-map (held h) (λ (z : Node). z.number) in
-      let k = length_held h in
+      let k = held_long h in
       let r = qd.roomy in omega arith
 
   -- ---- the end
 
   pub queued_none : h.len ≡ 0 → NoneWaits xs w nodes
-  queued_none z n t = let i = (qd.each n t).1 in let k = length_held h in omega arith
+  queued_none z n t = let i = (qd.each n t).1 in let k = held_long h in omega arith
 
   -- ---- nothing is altered
 

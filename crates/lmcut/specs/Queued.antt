@@ -20,8 +20,6 @@ use Rattle.task.specs.States.{fact_holds}
 use Rattle.lmcut.specs.Valued.{infinite}
 use Rattle.lmcut.specs.declared.node.Node.{Node}
 use Rattle.lmcut.specs.contracts.node.NodeOrd.TheImpl as node_order
-use Rattle.lmcut.specs.contracts.node.NodePartialEq.TheImpl as node_eq
-use Rattle.lmcut.specs.contracts.node.NodePartialOrd.TheImpl as node_partial
 
 abbrev pub orders : Node → Node → Ordering
 orders = (node_order.ghosts).cmp
@@ -30,7 +28,7 @@ abbrev pub by_node : IsTotalOrder orders
 by_node = then_total (on_total (λ (x : Node). x.value) nat_cmp_total) (on_total (λ (x : Node). x.number) nat_cmp_total)
 
 abbrev pub NodeHeap : Type 0
-NodeHeap = Heap Node (node_order.ghosts) (node_eq.ghosts) (node_partial.ghosts)
+NodeHeap = Heap Node
 
 abbrev pub entry : ℕ → ℕ → Node
 entry v n = record { value = v; number = n }

@@ -1,5 +1,6 @@
 // The open nodes of finite value, which wait in a heap.
-ghost use Rattle.lmcut.specs.Queued.{Requeued};
+ghost use Rattle.lmcut.specs.Queued.{orders, Requeued};
+ghost use Rattle.order.specs.Laws.{Lawful};
 
 use order::Heap;
 
@@ -16,7 +17,9 @@ pub struct Node {
 
 // Adds a node to the heap, or lowers it there. The heap has a place for each node, so it takes what it is given.
 pub(crate) fn queue(heap: &mut Heap<'_, Node>, number: usize, old: u64, new: u64)
-    ensures { Requeued heap.old number old new heap.new }
+    requires { Lawful orders heap.old }
+    ensures lawful { Lawful orders heap.new }
+    ensures queued { Requeued heap.old number old new heap.new }
 {
     if old == INFINITE {
         let _ = heap.push(Node { value: new, number });

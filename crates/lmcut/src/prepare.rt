@@ -49,12 +49,14 @@ fn draw(position: &Position, question: &mut Question)
     question.needs[moves] = needs_word(task, tables.head.goal);
     mark_all(&question.needs, &mut question.needing);
     mark_all(&question.reach, &mut question.reaching);
-    // Field by field: a question is large, and an update of the whole would copy it.
-    question.facts = facts;
-    question.nodes = facts + tables.conditions.len() + 1;
-    question.actions = moves + 1;
-    question.holds = met.holds;
-    question.shorts = met.shorts;
+    *question = Question {
+        facts,
+        nodes: facts + tables.conditions.len() + 1,
+        actions: moves + 1,
+        holds: met.holds,
+        shorts: met.shorts,
+        ..*question
+    };
 }
 
 // Fills a blank question with that of a state of a task: its limits are kept, and its rounds are those of the task and the state.

@@ -2,7 +2,8 @@
 // nodes. The goal node is needed by no action, so it takes offers but is never open.
 ghost use Rattle.std.specs.Prelude.{◌≡◌, ◌+◌, ◌*◌, ◌<◌, ◌≤◌, length, MatchOption};
 ghost use Rattle.lmcut.specs.Valued.{edge_weight, most_weight, Fired, ready_at, fires_at, infinite, ReachedTo, Begun, Opened, Valued};
-ghost use Rattle.lmcut.specs.Queued.{Queued, NoneWaits, Taken, put};
+ghost use Rattle.lmcut.specs.Queued.{orders, Queued, NoneWaits, Taken, put};
+ghost use Rattle.order.specs.Laws.{Lawful};
 
 use crate::bits::*;
 use crate::left::Left;
@@ -28,6 +29,7 @@ struct Settling<'q, 'h> {
     open_nodes: u128,
     values: [u64; 129],
     heap: Heap<'h, Node>,
+    ghost lawful: { Lawful orders heap },
     ghost queued: { ∥ Queued values open_nodes asked.question.now.nodes heap ∥₁ },
 }
 

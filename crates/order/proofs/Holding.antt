@@ -4,9 +4,6 @@ use mathlib.Core.Bool.{Bool-set}
 use mathlib.Core.HLevel.{Π_prop}
 use mathlib.Core.Logic.{∥∥₁_elim}
 use lib.Seq.{take-set-lt, set_split}
-use Rattle.std.specs.declared.cmp.Ord as ord
-use Rattle.std.specs.declared.cmp.PartialEq as eq
-use Rattle.std.specs.declared.cmp.PartialOrd as partial
 use Rattle.std.specs.Cmp.{IsTotalOrder}
 use Rattle.std.specs.List.{Contains, remove}
 use Rattle.std.specs.List.Sorted.{IsPermutation}
@@ -50,7 +47,7 @@ module _ {X : Type 0} {R : X → X → Ordering} where
       (cases_eq k 0)
 
   -- what stands first
-  pub first_from : {g : ord.Ghosts X} {g' : eq.Ghosts X} {g'' : partial.Ghosts X} (h : Heap X g g' g'') (e : X) → 0 < h.len → Lawful R h → First R h (get_or h.entries.now 0 e)
+  pub first_from : (h : Heap X) (e : X) → 0 < h.len → Lawful R h → First R h (get_or h.entries.now 0 e)
   first_from h e some l =
       let xs = h.entries.now in
       let n = h.len in
@@ -65,7 +62,7 @@ module _ {X : Type 0} {R : X → X → Ordering} where
       }
 
   -- what `first` tells
-  pub first_answer : {g : ord.Ghosts X} {g' : eq.Ghosts X} {g'' : partial.Ghosts X} (h : Heap X g g' g'') (r : Option X) → r ≡ slice_get (take h.len h.entries.now) 0 → Lawful R h → MatchOption r (h.len ≡ 0) (First R h)
+  pub first_answer : (h : Heap X) (r : Option X) → r ≡ slice_get (take h.len h.entries.now) 0 → Lawful R h → MatchOption r (h.len ≡ 0) (First R h)
   first_answer h None e l = ⊎_elim
       (λ s. absurd (true≢false (sym (ap is_some (e ∙ s.2)))))
       (λ s. omega (arith, simp length-take at s.0, l.0))
@@ -77,7 +74,7 @@ module _ {X : Type 0} {R : X → X → Ordering} where
       let some : 0 < n = omega (arith, simp length-take at inside) in
       subst (First R h) (sym (get_or-take n xs 0 x some) ∙ get_or_from_slice_get (take n xs) 0 x x (sym e)) (first_from h x some l)
 
-  pub first_some : {g : ord.Ghosts X} {g' : eq.Ghosts X} {g'' : partial.Ghosts X} {h : Heap X g g' g''} {x : X} → First R h x → 0 < h.len
+  pub first_some : {h : Heap X} {x : X} → First R h x → 0 < h.len
   first_some {h} f = omega (arith, simp length-take at f.has.1)
 
   -- ---- push

@@ -1,9 +1,6 @@
 -- For callers: which entries are held after a call, from what its contract says of them.
 -- `count_by p` is a `sum_by`, so each lemma on sums counts too.
-use Rattle.std.proofs.Common.{◌≡◌, ℕ, zero, suc, ◌+◌, ◌<◌, Bool, true, false, ◌⊎◌, List, [], ◌∷◌, length, get_or, take, IfSome, Some, None, Ok, Err, MatchBool, sum_by, Option, Result, Ordering, Equal, sym, refl, ap, ◌∙◌, subst, inl, inr, ⊎_elim, arith, length-take, MatchOption, MatchResult}
-use Rattle.std.specs.declared.cmp.Ord as ord
-use Rattle.std.specs.declared.cmp.PartialEq as eq
-use Rattle.std.specs.declared.cmp.PartialOrd as partial
+use Rattle.std.proofs.Common.{◌≤◌, ◌≡◌, ℕ, zero, suc, ◌+◌, ◌<◌, Bool, true, false, ◌⊎◌, List, [], ◌∷◌, length, get_or, take, IfSome, Some, None, Ok, Err, MatchBool, sum_by, Option, Result, Ordering, Equal, sym, refl, ap, ◌∙◌, subst, inl, inr, ⊎_elim, arith, length-take, MatchOption, MatchResult}
 use Rattle.std.specs.Cmp.{IsTotalOrder}
 use Rattle.std.specs.List.{All, Contains}
 use Rattle.std.specs.List.Sorted.{IsPermutation}
@@ -43,10 +40,10 @@ module _ {X : Type 0} where
     all_without : (P : X → Type 0) → All P ys → P x × All P xs
     all_without P h = let a = All-permutation P ys (x ∷ xs) (IsPermutation-sym (x ∷ xs) ys s) h in (All-head P x xs a, All-tail P x xs a)
 
-module _ {X : Type 0} {g : ord.Ghosts X} {g' : eq.Ghosts X} {g'' : partial.Ghosts X} where
+module _ {X : Type 0} where
   -- ---- after `push`
 
-  module _ {h : Heap X g g' g''} {x : X} {k : Heap X g g' g''} (p : Pushed h x k) where
+  module _ {h : Heap X} {x : X} {k : Heap X} (p : Pushed h x k) where
     pub pushed_has_new : Contains (held k) x
     pushed_has_new = has_new x (held h) (held k) p.entries
 
@@ -67,7 +64,7 @@ module _ {X : Type 0} {g : ord.Ghosts X} {g' : eq.Ghosts X} {g'' : partial.Ghost
 
   -- ---- after `pop`
 
-  module _ {h : Heap X g g' g''} {x : X} {k : Heap X g g' g''} (p : Popped h x k) where
+  module _ {h : Heap X} {x : X} {k : Heap X} (p : Popped h x k) where
     back : IsPermutation (x ∷ held k) (held h)
     back = IsPermutation-sym (held h) (x ∷ held k) p.entries
 
@@ -91,7 +88,7 @@ module _ {X : Type 0} {g : ord.Ghosts X} {g' : eq.Ghosts X} {g'' : partial.Ghost
 
   -- ---- after `lower`
 
-  module _ {R : X → X → Ordering} {h : Heap X g g' g''} {x y : X} {k : Heap X g g' g''} (l : Lowered R h x y k) where
+  module _ {R : X → X → Ordering} {h : Heap X} {x y : X} {k : Heap X} (l : Lowered R h x y k) where
     had : IsPermutation (l.was ∷ l.others) (held h)
     had = IsPermutation-sym (held h) (l.was ∷ l.others) l.before
 
@@ -127,63 +124,57 @@ module _ {X : Type 0} {g : ord.Ghosts X} {g' : eq.Ghosts X} {g'' : partial.Ghost
 
   -- ---- whether a call succeeds
 
-  pub pushed_fits : (h : Heap X g g' g'') (x : X) (k : Heap X g g' g'') (r : Result (Unit {0}) X) → MatchResult r (λ _. Pushed h x k) (λ y. Refused h x y k) → h.len < room h → Pushed h x k
+  pub pushed_fits : (h : Heap X) (x : X) (k : Heap X) (r : Result (Unit {0}) X) → MatchResult r (λ _. Pushed h x k) (λ y. Refused h x y k) → h.len < room h → Pushed h x k
   pushed_fits h x k (Ok u) p lt = p
   pushed_fits h x k (Err y) p lt = absurd (omega (arith, p.1))
 
-  pub pushed_full : (h : Heap X g g' g'') (x : X) (k : Heap X g g' g'') (r : Result (Unit {0}) X) → MatchResult r (λ _. Pushed h x k) (λ y. Refused h x y k) → h.len ≡ room h → (r ≡ Err x) × Same h k
-  pushed_full h x k (Ok u) p full = absurd (omega (arith, p.len, p.same_room, k.lawful.0))
-  pushed_full h x k (Err y) p full = (ap Err p.0, p.2)
+  pub pushed_full : (h : Heap X) (x : X) (k : Heap X) (r : Result (Unit {0}) X) → MatchResult r (λ _. Pushed h x k) (λ y. Refused h x y k) → h.len ≡ room h → k.len ≤ room k → (r ≡ Err x) × Same h k
+  pushed_full h x k (Ok u) p full le = absurd (omega (arith, p.len, p.same_room))
+  pushed_full h x k (Err y) p full le = (ap Err p.0, p.2)
 
-  pub first_told : {R : X → X → Ordering} (h : Heap X g g' g'') (r : Option X) → MatchOption r (h.len ≡ 0) (First R h) → 0 < h.len → (x : X) × (r ≡ Some x) × First R h x
+  pub first_told : {R : X → X → Ordering} (h : Heap X) (r : Option X) → MatchOption r (h.len ≡ 0) (First R h) → 0 < h.len → (x : X) × (r ≡ Some x) × First R h x
   first_told h None z some = absurd (omega arith)
   first_told h (Some x) f some = (x, refl, f)
 
   -- ---- whichever way a call ends
 
-  pub same_held : (h k : Heap X g g' g'') → Same h k → held k ≡ held h
+  pub same_held : (h k : Heap X) → Same h k → held k ≡ held h
   same_held h k s = λ i. take (s.0 i) (s.1 i)
 
-  pub empty_all : (h : Heap X g g' g'') → h.len ≡ 0 → (P : X → Type 0) → All P (held h)
+  pub empty_all : (h : Heap X) → h.len ≡ 0 → (P : X → Type 0) → All P (held h)
   empty_all h z P = subst (λ n. All P (take n h.entries.now)) (sym z) (All-nil P)
 
-  pub push_all : (h : Heap X g g' g'') (x : X) (k : Heap X g g' g'') (r : Result (Unit {0}) X) → MatchResult r (λ _. Pushed h x k) (λ y. Refused h x y k) → (P : X → Type 0) → P x → All P (held h) → All P (held k)
+  pub push_all : (h : Heap X) (x : X) (k : Heap X) (r : Result (Unit {0}) X) → MatchResult r (λ _. Pushed h x k) (λ y. Refused h x y k) → (P : X → Type 0) → P x → All P (held h) → All P (held k)
   push_all h x k (Ok u) p P new all = pushed_all p P new all
   push_all h x k (Err y) p P new all = subst (All P) (sym (same_held h k p.2)) all
 
-  pub pop_all : (h k : Heap X g g' g'') (r : Option X) → MatchOption r (Same h k) (λ x. Popped h x k) → (P : X → Type 0) → All P (held h) → All P (held k)
+  pub pop_all : (h k : Heap X) (r : Option X) → MatchOption r (Same h k) (λ x. Popped h x k) → (P : X → Type 0) → All P (held h) → All P (held k)
   pop_all h k None p P all = subst (All P) (sym (same_held h k p)) all
   pop_all h k (Some x) p P all = (popped_all p P all).1
 
-  pub pop_each : (h k : Heap X g g' g'') (r : Option X) → MatchOption r (Same h k) (λ x. Popped h x k) → (P : X → Type 0) → All P (held h) → IfSome r P
+  pub pop_each : (h k : Heap X) (r : Option X) → MatchOption r (Same h k) (λ x. Popped h x k) → (P : X → Type 0) → All P (held h) → IfSome r P
   pop_each h k None p P all = tt
   pop_each h k (Some x) p P all = (popped_all p P all).0
 
-  pub lower_all : (R : X → X → Ordering) (h : Heap X g g' g'') (x y : X) (k : Heap X g g' g'') (r : Bool) → MatchBool r (Lowered R h x y k) (Unmet R h x y × Same h k) → (P : X → Type 0) → P y → All P (held h) → All P (held k)
+  pub lower_all : (R : X → X → Ordering) (h : Heap X) (x y : X) (k : Heap X) (r : Bool) → MatchBool r (Lowered R h x y k) (Unmet R h x y × Same h k) → (P : X → Type 0) → P y → All P (held h) → All P (held k)
   lower_all R h x y k true p P new all = lowered_all p P new all
   lower_all R h x y k false p P new all = subst (All P) (sym (same_held h k p.1)) all
 
-  -- ---- what every heap keeps: it is lawful, as its type says
-
-  pub lawful : (h : Heap X g g' g'') → Lawful g.cmp h
-  lawful h = h.lawful
-
   -- ---- how many are held, and where
 
-  pub length_held : (h : Heap X g g' g'') → length (held h) ≡ h.len
-  length_held h = length-take-le h.len h.entries.now h.lawful.0
+  pub length_held : {R : X → X → Ordering} (h : Heap X) → Lawful R h → length (held h) ≡ h.len
+  length_held h l = length-take-le h.len h.entries.now l.0
 
-  pub has_held : (h : Heap X g g' g'') (i : ℕ) (d : X) → i < h.len → Contains (held h) (get_or h.entries.now i d)
-  has_held h i d lt =
-      let le = h.lawful.0 in
+  pub has_held : (h : Heap X) (i : ℕ) (d : X) → h.len ≤ room h → i < h.len → Contains (held h) (get_or h.entries.now i d)
+  has_held h i d le lt =
       let in' : i < length (held h) = simp length-take (omega arith) in
       subst (Contains (held h)) (get_or-take h.len h.entries.now i d lt) (Contains-get_or (held h) i d in')
 
   -- ---- what is told
 
   -- `first` and a `pop` that follows give the same entry
-  pub first_same : {R : X → X → Ordering} {h : Heap X g g' g''} {x y : X} → First R h x → First R h y → x ≡ y
+  pub first_same : {R : X → X → Ordering} {h : Heap X} {x y : X} → First R h x → First R h y → x ≡ y
   first_same {x = x} f g = f.front x ∙ sym (g.front x)
 
-  pub first_at_most : {R : X → X → Ordering} {h : Heap X g g' g''} {x : X} → First R h x → (o : IsTotalOrder R) (z : X) → Contains (held h) z → AtMost o x z
+  pub first_at_most : {R : X → X → Ordering} {h : Heap X} {x : X} → First R h x → (o : IsTotalOrder R) (z : X) → Contains (held h) z → AtMost o x z
   first_at_most {h = h} {x = x} f o z m = All-contains (AtMost o x) (held h) z (f.least o) m

@@ -1,5 +1,4 @@
 -- What each call does to a heap h, which is then k. R is `T.cmp`, and o any total order that R allows.
--- The type of a heap names what its entries' `Ord`, `PartialEq` and `PartialOrd` say: g, g' and g''.
 --     held h            the entries held
 --     room h            how many entries the slice has place for
 --     Lawful R h        the entries stand within the slice, and none is below its parent
@@ -13,9 +12,6 @@
 --     Lowered R h x y k     y stands for an entry that was tied with x
 --     Unmet R h x y     y is above x, or no entry is tied with x
 use Rattle.std.specs.Prelude.{◌≡◌, ℕ, ◌+◌, ◌<◌, false, ◌⊎◌, List, ◌∷◌, length, take, drop, slice_index_or}
-use Rattle.std.specs.declared.cmp.Ord as ord
-use Rattle.std.specs.declared.cmp.PartialEq as eq
-use Rattle.std.specs.declared.cmp.PartialOrd as partial
 use Rattle.std.specs.declared.cmp.Ordering.TheVariants.{Equal, Greater}
 use Rattle.std.specs.declared.cmp.Ordering.{Ordering}
 use Rattle.std.specs.Cmp.{IsTotalOrder}
@@ -26,46 +22,46 @@ use Rattle.order.specs.declared.Heap.{Heap}
 use Rattle.order.specs.Ranks.{AtMost, Least}
 use Rattle.order.specs.Shape.{Keeps}
 
-module _ {X : Type 0} {g : ord.Ghosts X} {g' : eq.Ghosts X} {g'' : partial.Ghosts X} where
-  abbrev pub held : Heap X g g' g'' → List X
+module _ {X : Type 0} where
+  abbrev pub held : Heap X → List X
   held h = take h.len h.entries.now
 
-  abbrev pub room : Heap X g g' g'' → ℕ
+  abbrev pub room : Heap X → ℕ
   room h = length h.entries.now
 
-  abbrev pub Lawful : (X → X → Ordering) → Heap X g g' g'' → Type 0
+  abbrev pub Lawful : (X → X → Ordering) → Heap X → Type 0
   Lawful R h = Keeps R h.entries.now h.len
 
-  abbrev pub Same : Heap X g g' g'' → Heap X g g' g'' → Type 0
+  abbrev pub Same : Heap X → Heap X → Type 0
   Same h k = (k.len ≡ h.len) × (k.entries.now ≡ h.entries.now)
 
-  pub record First (R : X → X → Ordering) (h : Heap X g g' g'') (x : X) : Type 0 where
+  pub record First (R : X → X → Ordering) (h : Heap X) (x : X) : Type 0 where
     pub front : (d : X) → x ≡ slice_index_or h.entries.now 0 d
     pub has : Contains (held h) x
     pub least : (o : IsTotalOrder R) → Least o x (held h)
 
-  pub record Pushed (h : Heap X g g' g'') (x : X) (k : Heap X g g' g'') : Type 0 where
+  pub record Pushed (h : Heap X) (x : X) (k : Heap X) : Type 0 where
     pub len : k.len ≡ h.len + 1
     pub same_room : room k ≡ room h
     pub entries : IsPermutation (x ∷ held h) (held k)
     pub past : drop k.len k.entries.now ≡ drop k.len h.entries.now
 
-  abbrev pub Refused : Heap X g g' g'' → X → X → Heap X g g' g'' → Type 0
+  abbrev pub Refused : Heap X → X → X → Heap X → Type 0
   Refused h x y k = (y ≡ x) × (h.len ≡ room h) × Same h k
 
-  pub record Popped (h : Heap X g g' g'') (x : X) (k : Heap X g g' g'') : Type 0 where
+  pub record Popped (h : Heap X) (x : X) (k : Heap X) : Type 0 where
     pub len : h.len ≡ k.len + 1
     pub same_room : room k ≡ room h
     pub entries : IsPermutation (held h) (x ∷ held k)
     pub past : drop k.len k.entries.now ≡ x ∷ drop h.len h.entries.now
 
-  abbrev pub Lacks : (X → X → Ordering) → Heap X g g' g'' → X → Type 0
+  abbrev pub Lacks : (X → X → Ordering) → Heap X → X → Type 0
   Lacks R h x = (o : IsTotalOrder R) → All (λ z. is_eq (R z x) ≡ false) (held h)
 
-  abbrev pub Found : (X → X → Ordering) → Heap X g g' g'' → X → ℕ → Type 0
+  abbrev pub Found : (X → X → Ordering) → Heap X → X → ℕ → Type 0
   Found R h x i = (i < h.len) × ((o : IsTotalOrder R) (d : X) → R (slice_index_or h.entries.now i d) x ≡ Equal)
 
-  pub record Lowered (R : X → X → Ordering) (h : Heap X g g' g'') (x y : X) (k : Heap X g g' g'') : Type 0 where
+  pub record Lowered (R : X → X → Ordering) (h : Heap X) (x y : X) (k : Heap X) : Type 0 where
     pub len : k.len ≡ h.len
     pub same_room : room k ≡ room h
     pub not_above : (o : IsTotalOrder R) → AtMost o y x
@@ -76,5 +72,5 @@ module _ {X : Type 0} {g : ord.Ghosts X} {g' : eq.Ghosts X} {g'' : partial.Ghost
     pub after : IsPermutation (y ∷ others) (held k)
     pub past : drop k.len k.entries.now ≡ drop h.len h.entries.now
 
-  abbrev pub Unmet : (X → X → Ordering) → Heap X g g' g'' → X → X → Type 0
+  abbrev pub Unmet : (X → X → Ordering) → Heap X → X → X → Type 0
   Unmet R h x y = ((o : IsTotalOrder R) → R y x ≡ Greater) ⊎ Lacks R h x

@@ -3,19 +3,20 @@
 #![tactic(auto)]
 
 ghost use Rattle.std.specs.Prelude.{◌≡◌};
-ghost use Rattle.order.specs.Shape.{Keeps};
+ghost use Rattle.order.specs.Laws.{Lawful};
 
 mod reads;
 mod sift;
 mod writes;
 
 // The first `len` of `entries` are held, each at most its children. The slice is lent: nothing is allocated.
+// That it is so, `Lawful`, stands in the clauses and not in the type: a ghost field would want a bound on `T`, and then no struct
+// of a type parameter could hold a heap of pairs. A struct of a known entry type has it as a ghost field of its own.
 // It has no `impl Model`, with which a caller would not learn what the slice holds once the heap is let go.
 #[derive(Drop)]
-pub struct Heap<'a, T: Ord + Copy> {
+pub struct Heap<'a, T> {
     entries: &'a mut [T],
     len: usize,
-    ghost lawful: { Keeps T.cmp entries.now len },
 }
 
 impl<'a, T: Ord + Copy> Heap<'a, T> {
@@ -23,6 +24,7 @@ impl<'a, T: Ord + Copy> Heap<'a, T> {
     pub fn new(entries: &'a mut [T]) -> Heap<'a, T>
         ensures empty { result.len ≡ 0 }
         ensures lent { result.entries.now ≡ entries.old }
+        ensures lawful { Lawful T.cmp result }
         ensures lender { result.entries.ghost_name ≡ entries.entry.ghost_name }
     {
         Heap { entries, len: 0 }

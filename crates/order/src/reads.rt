@@ -1,6 +1,6 @@
 // What a heap tells of the entries held.
 ghost use Rattle.std.specs.Prelude.{◌≡◌, MatchOption, ◌==◌};
-ghost use Rattle.order.specs.Laws.{First};
+ghost use Rattle.order.specs.Laws.{Lawful, First};
 
 use super::Heap;
 
@@ -13,6 +13,7 @@ impl<'a, T: Ord + Copy> Heap<'a, T> {
 
     // The lowest entry.
     pub fn first(&self) -> Option<T>
+        requires { Lawful T.cmp self.now }
         ensures { MatchOption result (self.now.len ≡ 0) (First T.cmp self.now) }
     {
         self.entries[..self.len].first().copied()

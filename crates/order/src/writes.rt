@@ -1,6 +1,6 @@
 // What changes the entries held.
 ghost use Rattle.std.specs.Prelude.{◌≡◌, MatchBool, MatchOption, MatchResult};
-ghost use Rattle.order.specs.Laws.{Same, First, Pushed, Refused, Popped, Lacks, Found, Lowered, Unmet};
+ghost use Rattle.order.specs.Laws.{Lawful, Same, First, Pushed, Refused, Popped, Lacks, Found, Lowered, Unmet};
 
 use super::Heap;
 use super::sift::{sift_down, sift_up};
@@ -8,7 +8,9 @@ use super::sift::{sift_down, sift_up};
 impl<'a, T: Ord + Copy> Heap<'a, T> {
     // Adds an entry, or gives it back where there is no room.
     pub fn push(&mut self, x: T) -> Result<(), T>
+        requires { Lawful T.cmp self.old }
         ensures lender { self.new.entries.ghost_name ≡ self.old.entries.ghost_name }
+        ensures lawful { Lawful T.cmp self.new }
         ensures pushed { MatchResult result (λ _. Pushed self.old x self.new) (λ y. Refused self.old x y self.new) }
     {
         let Heap { entries, len } = self;
@@ -23,7 +25,9 @@ impl<'a, T: Ord + Copy> Heap<'a, T> {
 
     // Takes out the lowest entry.
     pub fn pop(&mut self) -> Option<T>
+        requires { Lawful T.cmp self.old }
         ensures lender { self.new.entries.ghost_name ≡ self.old.entries.ghost_name }
+        ensures lawful { Lawful T.cmp self.new }
         ensures first { MatchOption result (self.old.len ≡ 0) (First T.cmp self.old) }
         ensures popped { MatchOption result (Same self.old self.new) (λ x. Popped self.old x self.new) }
     {
@@ -37,7 +41,9 @@ impl<'a, T: Ord + Copy> Heap<'a, T> {
 
     // Puts `new`, which is not above `old`, in the place of an entry tied with `old`.
     pub fn lower(&mut self, old: T, new: T) -> bool
+        requires { Lawful T.cmp self.old }
         ensures lender { self.new.entries.ghost_name ≡ self.old.entries.ghost_name }
+        ensures lawful { Lawful T.cmp self.new }
         ensures lowered { MatchBool result (Lowered T.cmp self.old old new self.new) (Unmet T.cmp self.old old new × Same self.old self.new) }
     {
         if old < new {
@@ -54,6 +60,7 @@ impl<'a, T: Ord + Copy> Heap<'a, T> {
 
     // The place of an entry tied with `x`.
     fn place(&self, x: T) -> Option<usize>
+        requires { Lawful T.cmp self.now }
         ensures { MatchOption result (Lacks T.cmp self.now x) (Found T.cmp self.now x) }
     {
         self.entries[..self.len]

@@ -1,19 +1,16 @@
 -- A heap from which entries are popped until none is held.
 use Rattle.std.proofs.Common.{◌≡◌, suc, ◌+◌, ◌-◌, ◌≤◌, List, drop, sym, ap, ◌∙◌, arith}
-use Rattle.std.specs.declared.cmp.Ord as ord
-use Rattle.std.specs.declared.cmp.PartialEq as eq
-use Rattle.std.specs.declared.cmp.PartialOrd as partial
 use Rattle.std.proofs.lemmas.List.{drop-drop}
 use Rattle.order.specs.declared.Heap.{Heap}
 use Rattle.order.specs.Laws.{room, Popped}
 
 -- Some of the entries that h held are popped, and k is left.
-pub record Emptying {X : Type 0} {g : ord.Ghosts X} {g' : eq.Ghosts X} {g'' : partial.Ghosts X} (h k : Heap X g g' g'') : Type 0 where
+pub record Emptying {X : Type 0} (h k : Heap X) : Type 0 where
   pub fewer : k.len ≤ h.len
   pub same_room : room k ≡ room h
   pub past : drop h.len k.entries.now ≡ drop h.len h.entries.now
 
-module _ {X : Type 0} {c : ord.Ghosts X} {c' : eq.Ghosts X} {c'' : partial.Ghosts X} (h g k : Heap X c c' c'') (x : X) (e : Emptying h g) (p : Popped g x k) where
+module _ {X : Type 0} (h g k : Heap X) (x : X) (e : Emptying h g) (p : Popped g x k) where
   -- past those that h held stands nothing that is popped
   past_popped : drop h.len k.entries.now ≡ drop h.len g.entries.now
   past_popped =

@@ -1,8 +1,6 @@
 -- What the two orders say by fields.
 use Rattle.std.proofs.Common.{◌≡◌, ◌⊎◌, Some, None, Option, MatchOption, inl, inr, ⊎_elim, arith, length-take}
 use Rattle.std.specs.declared.cmp.Ord as ord
-use Rattle.std.specs.declared.cmp.PartialEq as eq
-use Rattle.std.specs.declared.cmp.PartialOrd as partial
 use Rattle.std.specs.Cmp.{IsTotalOrder, nat_cmp_total, on_total, then_total}
 use Rattle.std.specs.Ordering.{nat_cmp, on}
 use Rattle.std.specs.List.{Contains}
@@ -51,7 +49,7 @@ sooner x y h = ⊎_elim
     (fields_at_most by_f (then_total by_h by_row) x y h)
 
 -- What is first of two entries that were pushed is the lowest of them.
-module _ {X : Type 0} {c : ord.Ghosts X} {c' : eq.Ghosts X} {c'' : partial.Ghosts X} (g h k : Heap X c c' c'') (a b x : X) (none : g.len ≡ 0) (p : Pushed g a h) (q : Pushed h b k) (f : First c.cmp k x) where
+module _ {X : Type 0} {c : ord.Ghosts X} (g h k : Heap X) (a b x : X) (none : g.len ≡ 0) (p : Pushed g a h) (q : Pushed h b k) (f : First c.cmp k x) where
   from_none : Contains (held g) x → ⊥
   from_none m = omega (arith, simp length-take at m.1)
 

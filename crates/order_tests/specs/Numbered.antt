@@ -1,5 +1,5 @@
 -- What a queue keeps of its entries, and what each call does to its heap h, which is then k.
---     orders            the order that `ByTwo` derives
+--     orders, orders_three     the orders that `ByTwo` and `ByThree` derive
 --     Twos              the heaps of `ByTwo`
 --     Small x           the number of x is below a hundred
 --     Added h x k       x is small, and it is added
@@ -10,15 +10,18 @@ use Rattle.std.specs.declared.cmp.Ordering.{Ordering}
 use Rattle.order.specs.Laws.{room, Same, Pushed}
 use Rattle.order.specs.declared.Heap.{Heap}
 use Rattle.order_tests.specs.declared.ByTwo.{ByTwo}
+use Rattle.order_tests.specs.declared.ByThree.{ByThree}
 use Rattle.order_tests.specs.contracts.ByTwoOrd.TheImpl as two
-use Rattle.order_tests.specs.contracts.ByTwoPartialEq.TheImpl as two_eq
-use Rattle.order_tests.specs.contracts.ByTwoPartialOrd.TheImpl as two_partial
+use Rattle.order_tests.specs.contracts.ByThreeOrd.TheImpl as three
 
 abbrev pub orders : ByTwo → ByTwo → Ordering
 orders = (two.ghosts).cmp
 
+abbrev pub orders_three : ByThree → ByThree → Ordering
+orders_three = (three.ghosts).cmp
+
 abbrev pub Twos : Type 0
-Twos = Heap ByTwo (two.ghosts) (two_eq.ghosts) (two_partial.ghosts)
+Twos = Heap ByTwo
 
 abbrev pub Small : ByTwo → Type 0
 Small x = x.number < 100

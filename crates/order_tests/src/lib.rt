@@ -60,4 +60,6 @@ pub fn kept(x: u64) -> u64
 }
 
 #[cfg(test)]
+mod holders;
+#[cfg(test)]
 mod tests;

@@ -1,6 +1,6 @@
 // A struct that holds a heap, with facts of its own on the entries held.
 ghost use Rattle.std.specs.Prelude.{◌≡◌, IfSome, MatchBool, MatchOption};
-ghost use Rattle.order.specs.Laws.{held, Same, First, Popped};
+ghost use Rattle.order.specs.Laws.{Lawful, held, Same, First, Popped};
 ghost use Rattle.order_tests.specs.Numbered.{orders, Small, Added, Declined, Cleared};
 ghost use Rattle.std.specs.List.{All};
 
@@ -11,6 +11,7 @@ use order::Heap;
 #[derive(Drop)]
 pub struct Queue<'a> {
     heap: Heap<'a, ByTwo>,
+    ghost lawful: { Lawful orders heap },
     ghost small: { All Small (held heap) },
 }
 

@@ -1,4 +1,6 @@
 ghost use Rattle.std.specs.Prelude.{◌<◌};
+ghost use Rattle.order.specs.Laws.{Lawful};
+ghost use Rattle.order_tests.specs.Numbered.{orders_three};
 
 use crate::{ByThree, ByTwo};
 use order::Heap;
@@ -70,7 +72,10 @@ fn pushes(
     heap: &mut Heap<ByThree>,
     copy: &mut [ByThree; 8],
     x: ByThree,
-) -> Result<(), Fail> {
+) -> Result<(), Fail>
+    requires { Lawful orders_three heap.old }
+    ensures { Lawful orders_three heap.new }
+{
     let room = heap.len() < 8;
     assert!(rt; heap.push(x).is_ok() == room);
     if room {
@@ -80,7 +85,10 @@ fn pushes(
     Ok(())
 }
 
-fn pops(rt: &impl Abort, heap: &mut Heap<ByThree>, copy: &mut [ByThree; 8]) -> Result<(), Fail> {
+fn pops(rt: &impl Abort, heap: &mut Heap<ByThree>, copy: &mut [ByThree; 8]) -> Result<(), Fail>
+    requires { Lawful orders_three heap.old }
+    ensures { Lawful orders_three heap.new }
+{
     let want = if heap.is_empty() { None } else { Some(copy[0]) };
     assert!(rt; heap.first() == want);
     assert!(rt; heap.pop() == want);
@@ -96,7 +104,9 @@ fn lowers(
     i: usize,
     x: ByThree,
 ) -> Result<(), Fail>
-    requires { i < 8 }
+    requires within { i < 8 }
+    requires lawful { Lawful orders_three heap.old }
+    ensures { Lawful orders_three heap.new }
 {
     let old = copy[i];
     let may = i < heap.len() && x <= old;
@@ -113,7 +123,10 @@ fn turns(
     heap: &mut Heap<ByThree>,
     copy: &mut [ByThree; 8],
     seed: u64,
-) -> Result<(), Fail> {
+) -> Result<(), Fail>
+    requires { Lawful orders_three heap.old }
+    ensures { Lawful orders_three heap.new }
+{
     let x = some_three(seed);
     match (seed >> 60) % 4 {
         0 => pops(rt, heap, copy),

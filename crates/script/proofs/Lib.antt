@@ -1,6 +1,6 @@
 mod Apart
 mod Buffers
-mod Exact
+pub mod Exact
 mod Lines
 mod Printing
 mod Steps

@@ -8,8 +8,8 @@ lowered_if : (h : NodeHeap) (x y : Node) (k : NodeHeap) (r : Bool) → MatchBool
 lowered_if h x y k true l met = l
 lowered_if h x y k false l met = absurd (met l.0)
 
-pub returns-else-old-eq-INFINITE : goal.returns-else-old-eq-INFINITE
-returns-else-old-eq-INFINITE c =
+pub returns-else-old-eq-INFINITE-clause-queued : goal.returns-else-old-eq-INFINITE-clause-queued
+returns-else-old-eq-INFINITE-clause-queued c =
     record {
       fresh = λ e. absurd (c.if-old-eq-INFINITE.false e);
       again = λ _. lowered_if c.args.heap.now (entry c.args.old c.args.number) (entry c.args.new c.args.number) c.lower.new.self c.lower.result c.lower.ensures.lowered;

@@ -6,23 +6,20 @@ use Rattle.order.proofs.Ranking.{told_lt, at_most_not_below, at_most_tied, at_mo
 use Rattle.order.proofs.Holding.{keeps_heaped, lowered_heaped, lowered_rest, lowered_before, lowered_after}
 use Rattle.order.proofs.Heap.lower.Goals as goal
 
-pub invariant_of-self : goal.invariant_of-self
-invariant_of-self g c =
+pub returns-clause-lawful : goal.returns-clause-lawful
+returns-clause-lawful g c =
     let xs = c.args.self.now.entries.now in
     let n = c.args.self.now.len in
     let at = c.in-Some.found in
     let new = c.args.new in
     let found = c.in-Some.ensures in
-    let le = c.args.self.now.lawful.0 in
+    let le = c.requires.0 in
     let long : length c.sift_up.new.entries ≡ length xs = c.sift_up.ensures.len ∙ simp length-set in
-    let under : (o : IsTotalOrder g.T.Ord.cmp) → AtMost o new c.args.old = λ o. at_most_not_below o _ _ (told_lt g.met.T.Ord.matches_partial_cmp _ _ c.lt.ensures c.if-lt.false) in
-    record {
-      lawful = (
-        omega arith,
-        ∣ (λ o. lowered_heaped xs (set xs at new) c.sift_up.new.entries at n new found.0 le refl c.sift_up.ensures.raised o
-            (λ d. at_most_trans o _ _ _ (under o) (at_most_tied o _ _ (tied_sym o _ _ (found.1 o d)))) (keeps_heaped xs n c.args.self.now.lawful o)) ∣₁,
-      );
-    }
+    let under : (o : IsTotalOrder g.T.Ord.cmp) → AtMost o new c.args.old = λ o. at_most_not_below o _ _ (told_lt g.met.T.Ord.matches_partial_cmp _ _ c.lt.ensures c.if-lt.false) in (
+      omega arith,
+      ∣ (λ o. lowered_heaped xs (set xs at new) c.sift_up.new.entries at n new found.0 le refl c.sift_up.ensures.raised o
+          (λ d. at_most_trans o _ _ _ (under o) (at_most_tied o _ _ (tied_sym o _ _ (found.1 o d)))) (keeps_heaped xs n c.requires o)) ∣₁,
+    )
 
 pub returns-clause-lowered : goal.returns-clause-lowered
 returns-clause-lowered g c =
@@ -33,7 +30,7 @@ returns-clause-lowered g c =
     let zs = c.sift_up.new.entries in
     let up = c.sift_up.ensures.raised in
     let found = c.in-Some.ensures in
-    let le = c.args.self.now.lawful.0 in
+    let le = c.requires.0 in
     record {
       len = refl;
       same_room = c.sift_up.ensures.len ∙ simp length-set;

@@ -5,7 +5,7 @@ use Rattle.order_tests.proofs.Emptied.{emptying_more}
 use Rattle.order_tests.proofs.queue.Queue.clear.Goals as goal
 
 pub invariant_of-self : goal.invariant_of-self
-invariant_of-self c = record { small = pop_all c.loop.self.heap c.pop.new.self c.pop.result c.pop.ensures.popped Small c.loop.self.small }
+invariant_of-self c = record { lawful = c.pop.ensures.lawful; small = pop_all c.loop.self.heap c.pop.new.self c.pop.result c.pop.ensures.popped Small c.loop.self.small }
 
 pub loop-preserved : goal.loop-preserved
 loop-preserved c =
