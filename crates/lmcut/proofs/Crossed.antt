@@ -293,6 +293,18 @@ module _ (q : Question) (rs : List ℕ) (ss : List (Option ℕ)) (near start : L
           ∙ ap₂ smaller (ap (lightest (get_or rs i 0)) (sym (cond-true _ _ _ (sym here ∙ e)))) rest
       go false e rest = rest ∙ ap (λ xs. smaller (lightest (get_or rs i 0) xs) (lightest_of (crossings (edges_from q rs ss (i + 1) k) near start))) (sym (cond-false _ _ _ (sym here ∙ e)))
 
+-- the smaller of a number and the smallest so far, if there is one
+abbrev pub least_with : Value → ℕ → Value
+least_with v x = Some (min (unwrap_or v x) x)
+
+least_folded : (a : ℕ) (xs : List ℕ) → fold least_with (Some a) xs ≡ Some (fold min a xs)
+least_folded a [] = refl
+least_folded a (x ∷ xs) = least_folded (min a x) xs
+
+pub least_reduced : (xs : List ℕ) → fold least_with None xs ≡ reduce min xs
+least_reduced [] = refl
+least_reduced (x ∷ xs) = least_folded (min x x) xs ∙ (let e : min x x ≡ x = omega arith in ap (λ a. Some (fold min a xs)) e)
+
 pub unwrapped : (v : Value) → unwrap_or v 0 ≡ or_zero v
 unwrapped None = refl
 unwrapped (Some a) = refl

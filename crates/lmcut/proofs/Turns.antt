@@ -49,41 +49,41 @@ module _ (q : Question) (rs xs : List ℕ) (w top : ℕ) (f : Fits q) (g : Going
 
 -- a struct has a question and what is left of its costs, and its values are being found
 abbrev pub Turning : Question → List ℕ → Settling → Type 0
-Turning q rs s = (s.asked.question.now ≡ q) × (s.left.now.of ≡ rs) × ((top : ℕ) × Going q rs s.values s.open_nodes top none_due)
+Turning q rs s = (s.asked.question.now ≡ q) × (s.left.now.of ≡ rs) × ((top : ℕ) × Going q rs s.values.now s.open_nodes top none_due)
 
 module _ (q : Question) (rs : List ℕ) (f : Fits q) (small : Modest rs) where
-  pub turning_start : (s t : Settling) → s.asked.question.now ≡ q → s.left.now.of ≡ rs → Begun q s.values → Opened q s.open_nodes → Kept s t
-      → ReachedTo s.asked.question.now s.left.now.of (ready_at s.asked.question.now s.open_nodes) 0 s.asked.question.now.actions s.values t.values → Turning q rs t
+  pub turning_start : (s t : Settling) → s.asked.question.now ≡ q → s.left.now.of ≡ rs → Begun q s.values.now → Opened q s.open_nodes → Kept s t
+      → ReachedTo s.asked.question.now s.left.now.of (ready_at s.asked.question.now s.open_nodes) 0 s.asked.question.now.actions s.values.now t.values.now → Turning q rs t
   turning_start s t a b begun opened k r =
       let w = s.open_nodes in
-      let here = subst₂ (λ p ls. ReachedTo p ls (ready_at p w) 0 p.actions s.values t.values) a b r in
-      let going = going_fired q rs s.values t.values w 0 (ready_at q w) f small (going_start q rs s.values w f begun opened) here in
-      (ap (λ (x : Bor Question). x.now) k.question ∙ a, ap (λ (x : Bor Left). x.now.of) k.left ∙ b, (0, subst (λ v. Going q rs t.values v 0 none_due) (sym k.open_nodes) going))
+      let here = subst₂ (λ p ls. ReachedTo p ls (ready_at p w) 0 p.actions s.values.now t.values.now) a b r in
+      let going = going_fired q rs s.values.now t.values.now w 0 (ready_at q w) f small (going_start q rs s.values.now w f begun opened) here in
+      (ap (λ (x : Bor Question). x.now) k.question ∙ a, ap (λ (x : Bor Left). x.now.of) k.left ∙ b, (0, subst (λ v. Going q rs t.values.now v 0 none_due) (sym k.open_nodes) going))
 
   module _ (s : Settling) (g : Turning q rs s) where
-    pub turning_end : NoneWaits s.values s.open_nodes s.asked.question.now.nodes → Valued q rs s.values
-    turning_end none = going_valued q rs s.values s.open_nodes g.2.0 f small g.2.1 (none_low s.values s.open_nodes q.nodes (subst (λ (p : Question). NoneWaits s.values s.open_nodes p.nodes) g.0 none))
+    pub turning_end : NoneWaits s.values.now s.open_nodes s.asked.question.now.nodes → Valued q rs s.values.now
+    turning_end none = going_valued q rs s.values.now s.open_nodes g.2.0 f small g.2.1 (none_low s.values.now s.open_nodes q.nodes (subst (λ (p : Question). NoneWaits s.values.now s.open_nodes p.nodes) g.0 none))
 
-    module _ (x : Node) (v : ℕ) (t : Taken s.values s.open_nodes s.asked.question.now.nodes x v) where
-      taken : Taken s.values s.open_nodes q.nodes x v
-      taken = subst (λ (p : Question). Taken s.values s.open_nodes p.nodes x v) g.0 t
+    module _ (x : Node) (v : ℕ) (t : Taken s.values.now s.open_nodes s.asked.question.now.nodes x v) where
+      taken : Taken s.values.now s.open_nodes q.nodes x v
+      taken = subst (λ (p : Question). Taken s.values.now s.open_nodes p.nodes x v) g.0 t
 
       pub turning_inside : x.number < 128
-      turning_inside = turn_inside q rs s.values s.open_nodes g.2.0 f g.2.1 x v taken
+      turning_inside = turn_inside q rs s.values.now s.open_nodes g.2.0 f g.2.1 x v taken
 
       pub turning_small : x.value ≤ 129 * most_weight
-      turning_small = turn_small q rs s.values s.open_nodes g.2.0 f g.2.1 x v taken
+      turning_small = turn_small q rs s.values.now s.open_nodes g.2.0 f g.2.1 x v taken
 
       pub turning_less : v < s.open_nodes
-      turning_less = turn_less q rs s.values s.open_nodes g.2.0 f g.2.1 x v taken
+      turning_less = turn_less q rs s.values.now s.open_nodes g.2.0 f g.2.1 x v taken
 
-    pub turning_next : (x : Node) (t u : Settling) → t.asked.question ≡ s.asked.question → t.left ≡ s.left → t.values ≡ s.values → Taken s.values s.open_nodes s.asked.question.now.nodes x t.open_nodes → Kept t u
-        → ReachedTo t.asked.question.now t.left.now.of (fires_at t.asked.question.now t.open_nodes x.number) x.value t.asked.question.now.actions t.values u.values → Turning q rs u
+    pub turning_next : (x : Node) (t u : Settling) → t.asked.question ≡ s.asked.question → t.left ≡ s.left → t.values.now ≡ s.values.now → Taken s.values.now s.open_nodes s.asked.question.now.nodes x t.open_nodes → Kept t u
+        → ReachedTo t.asked.question.now t.left.now.of (fires_at t.asked.question.now t.open_nodes x.number) x.value t.asked.question.now.actions t.values.now u.values.now → Turning q rs u
     turning_next x t u a b c out k r =
         let w = t.open_nodes in
         let qs = ap (λ (y : Bor Question). y.now) a ∙ g.0 in
         let ls = ap (λ (y : Bor Left). y.now.of) b ∙ g.1 in
-        let there = subst₂ (λ p es. ReachedTo p es (fires_at p w x.number) x.value p.actions t.values u.values) qs ls r in
-        let here = subst (λ xs. ReachedTo q rs (fires_at q w x.number) x.value q.actions xs u.values) c there in
-        let going = turn_going q rs s.values s.open_nodes g.2.0 f g.2.1 x w (taken x w out) small u.values here in
-        (ap (λ (y : Bor Question). y.now) k.question ∙ qs, ap (λ (y : Bor Left). y.now.of) k.left ∙ ls, (x.value, subst (λ y. Going q rs u.values y x.value none_due) (sym k.open_nodes) going))
+        let there = subst₂ (λ p es. ReachedTo p es (fires_at p w x.number) x.value p.actions t.values.now u.values.now) qs ls r in
+        let here = subst (λ xs. ReachedTo q rs (fires_at q w x.number) x.value q.actions xs u.values.now) c there in
+        let going = turn_going q rs s.values.now s.open_nodes g.2.0 f g.2.1 x w (taken x w out) small u.values.now here in
+        (ap (λ (y : Bor Question). y.now) k.question ∙ qs, ap (λ (y : Bor Left). y.now.of) k.left ∙ ls, (x.value, subst (λ y. Going q rs u.values.now y x.value none_due) (sym k.open_nodes) going))

@@ -32,10 +32,13 @@ impl Cut<'_> {
     pub(crate) fn weight(&self) -> u64
         ensures { result ≡ cut_weight (crossings (edges_in self.now.graph.asked.question.now self.now.graph.left.now.of self.now.graph.sources.now) (zone_of self.now.graph.asked.question.now true self.now.near) (zone_of self.now.graph.asked.question.now false self.now.start)) }
     {
+        // By `fold`, which asks for the next weight at one place. `min` does so at two, and the chain is then called there.
         (0..self.graph.asked.question.actions)
             .filter(|&action| starts(self.graph.sources[action], self.start))
             .filter_map(|action| self.lightest(action))
-            .min()
+            .fold(None, |least: Option<u64>, weight| {
+                Some(least.unwrap_or(weight).min(weight))
+            })
             .unwrap_or(0)
     }
 

@@ -1,5 +1,6 @@
 // LM-cut as an estimator, and the landmark records behind its answers.
-ghost use Rattle.std.specs.Prelude.{◌≡◌, length, Some};
+ghost use Rattle.std.specs.Prelude.{◌≡◌, true, length, Some};
+ghost use Rattle.task.specs.States.{is_state};
 ghost use Rattle.task.specs.Tasks.{problem};
 ghost use Rattle.landmarks.specs.Laws.{Landmarked, Explained};
 ghost use Rattle.landmarks.specs.Rounds.{estimate, grounds};
@@ -58,6 +59,23 @@ impl fmt::Display for GroundsFault {
 
 impl Error for GroundsFault {}
 
+// The answer at a state. By itself: with the test of `ask` before it, the compiler clears the question twice in a caller that it
+// builds `ask` into.
+fn estimated(task: &Task, state: &State) -> Estimate
+    requires { is_state (problem task.now) state.now ≡ true }
+    ensures { result ≡ estimate (problem task.now) state.now }
+{
+    let mut question = BLANK;
+    prepare(task, state, &mut question);
+    let asked = Asked {
+        question: &question,
+    };
+    match asked.run(&mut []) {
+        None => Estimate::Dead,
+        Some(tally) => Estimate::AtLeast(tally.total.div_ceil(PARTS).min(MOST_TOLD)),
+    }
+}
+
 impl Estimator for LmCut {
     ghost answer = { λ _. estimate };
 
@@ -69,15 +87,7 @@ impl Estimator for LmCut {
         if !task.is_state(state) {
             return Estimate::AtLeast(0);
         }
-        let mut question = BLANK;
-        prepare(task, state, &mut question);
-        let asked = Asked {
-            question: &question,
-        };
-        match asked.run(&mut []) {
-            None => Estimate::Dead,
-            Some(tally) => Estimate::AtLeast(tally.total.div_ceil(PARTS).min(MOST_TOLD)),
-        }
+        estimated(task, state)
     }
 }
 

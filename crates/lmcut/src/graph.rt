@@ -19,5 +19,9 @@ pub(crate) fn starts(source: Option<u8>, zone: u128) -> bool
     requires { (n : ℕ) → source ≡ Some n → n < 128 }
     ensures { result ≡ marked zone source }
 {
-    source.is_none_or(|node| (zone >> node) & 1 == 1)
+    // A `match`, of which the compiler makes fewer steps than of `is_none_or` or `let .. else`: the innermost loops ask this.
+    match source {
+        None => true,
+        Some(node) => (zone >> node) & 1 == 1,
+    }
 }

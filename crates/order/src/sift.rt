@@ -1,4 +1,5 @@
 // The two ways an entry of a heap finds its place: it rises by halves of its index, or sinks by doubles, so each is a `while`.
+// Entries are read before they are compared: behind references a second field would be read on a tie alone, which is a branch.
 ghost use Rattle.std.specs.Prelude.{◌≡◌, ◌+◌, ◌*◌, ◌<◌, ◌≤◌, length};
 ghost use Rattle.order.specs.Shape.{Child, LowerChild, Raised, Sunk};
 
@@ -11,7 +12,8 @@ pub(super) fn sift_up<T: Ord + Copy>(entries: &mut [T], from: usize)
     let mut at = from;
     while 0 < at {
         let parent = (at - 1) / 2;
-        if entries[at] >= entries[parent] {
+        let (entry, above) = (entries[at], entries[parent]);
+        if entry >= above {
             return;
         }
         entries.swap(parent, at);
@@ -27,11 +29,11 @@ fn lower_child<T: Ord + Copy>(entries: &[T], at: usize, len: usize) -> usize
 {
     let left = at * 2 + 1;
     let right = left + 1;
-    if right < len && entries[right] < entries[left] {
-        right
-    } else {
-        left
+    if right == len {
+        return left;
     }
+    let (later, earlier) = (entries[right], entries[left]);
+    if later < earlier { right } else { left }
 }
 
 // Lowers the first entry among the first `len` until no child is below it.
@@ -43,7 +45,8 @@ pub(super) fn sift_down<T: Ord + Copy>(entries: &mut [T], len: usize)
     let mut at = 0;
     while at < len / 2 {
         let child = lower_child(entries, at, len);
-        if entries[child] >= entries[at] {
+        let (below, entry) = (entries[child], entries[at]);
+        if below >= entry {
             return;
         }
         entries.swap(at, child);

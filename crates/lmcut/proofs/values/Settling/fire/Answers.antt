@@ -34,17 +34,17 @@ loop-node-preserved c =
     let r = get_or s.left.now.of a 0 in
     let top = c.args.top in
     let n = c.in-Some.node in
-    let ys = c.loop-node.self.values in
+    let ys = c.loop-node.self.values.now in
     let g = c.loop-node.invariant.3 in
     let inside = node_inside (goal.at.loop-node-preserved c).In-Some in
-    let long : length s.values ≡ 129 = omega arith in
+    let long = s.long in
     let few = s.asked.fits.few_nodes in
     let l : n < length ys = omega (arith, inside, g.fired.long ∙ long, few) in
-    let there = firing_next q a r top c.loop-node.node-iterator.word s.values ys g n c.next.new.self.word c.inner.result s.asked.fits c.in-Some.ensures.steps c.inner.ensures l in (
+    let there = firing_next q a r top c.loop-node.node-iterator.word s.values.now ys g n c.next.new.self.word c.inner.result s.asked.fits c.in-Some.ensures.steps c.inner.ensures l in (
       tt,
       tt,
       kept_more s c.loop-node.self c.offer.new.self c.loop-node.invariant.2 c.offer.ensures.kept,
-      subst (Firing q a r top c.next.new.self.word s.values) (sym (c.offer.ensures.is ∙ ap (λ x. put ys n (top + x)) c.weight.ensures.is)) there,
+      subst (Firing q a r top c.next.new.self.word s.values.now) (sym (c.offer.ensures.is ∙ ap (λ x. put ys n (top + x)) c.weight.ensures.is)) there,
     )
 
 pub returns-then-action-question-clause-fired : goal.returns-then-action-question-clause-fired
@@ -54,12 +54,12 @@ returns-then-action-question-clause-fired c =
     let a = c.args.action in
     let r = get_or s.left.now.of a 0 in
     let top = c.args.top in
-    let ys = c.loop-node.self.values in
+    let ys = c.loop-node.self.values.now in
     let g = c.loop-node.invariant.3 in
-    let long : length s.values ≡ 129 = omega arith in
-    let f = firing_end q a r top c.loop-node.node-iterator.word s.values ys g c.next.new.self.word c.in-None.ensures.steps in
-    fired_ready q s.left.now.of s.open_nodes a top s.values c.offer-then-action-question.new.self.values c.if-question-action-ne0.false
-    (fired_goal q a r top s.values ys s.asked.fits f c.offer-then-action-question.new.self.values c.if-action-question.true (g.fired.long ∙ long) c.offer-then-action-question.ensures.is)
+    let long = s.long in
+    let f = firing_end q a r top c.loop-node.node-iterator.word s.values.now ys g c.next.new.self.word c.in-None.ensures.steps in
+    fired_ready q s.left.now.of s.open_nodes a top s.values.now c.offer-then-action-question.new.self.values.now c.if-question-action-ne0.false
+    (fired_goal q a r top s.values.now ys s.asked.fits f c.offer-then-action-question.new.self.values.now c.if-action-question.true (g.fired.long ∙ long) c.offer-then-action-question.ensures.is)
 
 pub returns-else-action-question-clause-fired : goal.returns-else-action-question-clause-fired
 returns-else-action-question-clause-fired c =
@@ -67,6 +67,6 @@ returns-else-action-question-clause-fired c =
     let q = s.asked.question.now in
     let a = c.args.action in
     let r = get_or s.left.now.of a 0 in
-    let ys = c.loop-node.self.values in
-    let f = firing_end q a r c.args.top c.loop-node.node-iterator.word s.values ys c.loop-node.invariant.3 c.next.new.self.word c.in-None.ensures.steps in
-    fired_ready q s.left.now.of s.open_nodes a c.args.top s.values ys c.if-question-action-ne0.false (fired_no_goal q a r c.args.top s.values ys s.asked.fits f c.if-action-question.false)
+    let ys = c.loop-node.self.values.now in
+    let f = firing_end q a r c.args.top c.loop-node.node-iterator.word s.values.now ys c.loop-node.invariant.3 c.next.new.self.word c.in-None.ensures.steps in
+    fired_ready q s.left.now.of s.open_nodes a c.args.top s.values.now ys c.if-question-action-ne0.false (fired_no_goal q a r c.args.top s.values.now ys s.asked.fits f c.if-action-question.false)

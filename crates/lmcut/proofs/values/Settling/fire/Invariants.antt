@@ -7,4 +7,4 @@ invariant-loop-node l =
     (goal.iterator-loop-node).can_next l.node-iterator
     × (goal.iterator-loop-node).is_finite l.node-iterator
     × Kept l.initial.self l.self
-    × Firing l.question l.action l.left l.top l.node-iterator.word l.initial.self.values l.self.values
+    × Firing l.question l.action l.left l.top l.node-iterator.word l.initial.self.values.now l.self.values.now

@@ -39,6 +39,7 @@ invariant_of-result c =
     let b = begun c in
     let blank = start_blank c.args.asked.question.now c.args.left.now.of c.loop-node.values c.loop-node.open_nodes c.args.asked.fits b.0 b.1 in
     record {
+      long = b.0.long;
       lawful = c.new.ensures.lawful;
       queued = ∣ queued_none_yet c.loop-node.values c.loop-node.open_nodes c.args.asked.question.now.nodes c.new.result blank c.new.ensures.empty (ap length c.new.ensures.lent ∙ c.requires) ∣₁;
     }

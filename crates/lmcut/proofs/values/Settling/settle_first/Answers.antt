@@ -10,7 +10,7 @@ loop-action-preserved c =
     let t = c.loop-action.self in
     let u = c.fire.new.self in
     let a = c.loop-action.action in
-    let fired = kept_back (λ q rs w. Fired q rs w a 0 t.values u.values) s t c.loop-action.invariant.0 c.fire.ensures.fired in (
+    let fired = kept_back (λ q rs w. Fired q rs w a 0 t.values.now u.values.now) s t c.loop-action.invariant.0 c.fire.ensures.fired in (
       kept_more s t u c.loop-action.invariant.0 c.fire.ensures.kept,
-      reached_more s.asked.question.now s.left.now.of (ready_at s.asked.question.now s.open_nodes) 0 a s.values t.values c.loop-action.invariant.1 s.open_nodes u.values refl fired,
+      reached_more s.asked.question.now s.left.now.of (ready_at s.asked.question.now s.open_nodes) 0 a s.values.now t.values.now c.loop-action.invariant.1 s.open_nodes u.values.now refl fired,
     )
